@@ -1,0 +1,23 @@
+-- `curve::RawCurve::checked_bid` meets its contract. Assumes nothing.
+use Rattle.number.proofs.Kit.{came}
+use borrow.Author.Needs.{needs}
+use Rattle.curve.proofs.RawCurve.checked_bid.Statement.{statement}
+use Rattle.curve.proofs.RawCurve.checked_bid.Tie as tie
+use Rattle.curve.proofs.RawCurve.checked_bid.Reads as reads
+use Rattle.curve.proofs.RawCurve.checked_bid.Lts as lts
+use Rattle.curve.proofs.Curve.highest_bid.Reads as highest-bid-reads
+use Rattle.curve.proofs.RawCurve.checked.Reads as checked-reads
+
+highest-bid-requires : tie.Need-highest-bid-requires
+highest-bid-requires c κs = search needs
+
+checked-requires : tie.Need-checked-requires
+checked-requires c κs = search needs
+
+returns : tie.Need-returns
+returns c =
+    let f = came (c .before .highest-bid .result) (c .before .highest-bid .ok) in
+    rw (c .before .highest-bid .ensures) at (simp f at (c .checked .ensures))
+
+pub checked-bid-spec : {M : Type 1} → statement M
+checked-bid-spec = tie.close (tie.spec highest-bid-requires checked-requires returns)

@@ -1,0 +1,3 @@
+-- Laws of intervals.
+pub mod FactorLaws
+pub mod IntervalLaws

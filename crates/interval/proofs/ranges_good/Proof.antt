@@ -1,0 +1,76 @@
+-- `interval::ranges_good` meets its contract. Assumes nothing.
+use mathlib.Core.Bool.{true, false}
+use mathlib.Core.Path.{_≡_, sym, _∙_}
+use borrow.Author.Tests.{not-true, not-false}
+use mir.Syntax.{w64}
+use mir.ValLaws.{toZ-ofZ}
+use lib.IntN.{pos, negℤ}
+use Rattle.number.specs.Order.{inRange}
+use Rattle.interval.specs.Intervals.{allWithin}
+use borrow.Author.Needs.{needs}
+use Rattle.interval.proofs.ranges_good.Statement.{statement}
+use Rattle.interval.proofs.ranges_good.Tie as tie
+use Rattle.interval.proofs.ranges_good.Reads as reads
+use Rattle.interval.proofs.ranges_good.Lts as lts
+use Rattle.interval.proofs.all_within.Reads as all-within-reads
+use Rattle.interval.proofs.factors_good.Reads as factors-good-reads
+use Rattle.number.proofs.within.Reads as within-reads
+
+-- each test's result
+shadow-off : (c : tie.Then1) → allWithin (pos 0) (pos 100000000) (c .before .before .args .shadow .now) (c .before .before .args .m) ≡ false
+shadow-off c = sym (c .before .all-within .ensures) ∙ not-true _ (c .if1 .taken)
+
+shadow-in : (c : tie.Else1) → allWithin (pos 0) (pos 100000000) (c .before .before .args .shadow .now) (c .before .before .args .m) ≡ true
+shadow-in c = sym (c .before .all-within .ensures) ∙ not-false _ (c .if1 .left)
+
+lmp-in : (c : tie.Else2) → allWithin (negℤ (pos 100000000)) (pos 100000000) (c .before .before .before .before .args .lmp .now) (c .before .before .before .before .args .n) ≡ true
+lmp-in c = sym (c .before .all-within2 .ensures) ∙ not-false _ (c .if2 .left)
+
+parameter-is : (c : tie.After-within) → c .within .result ≡ inRange (pos 0) (pos 100) (c .before .before .before .before .before .args .parameter)
+parameter-is c =
+    let s = c .before .before .before .before .before in
+    simp (toZ-ofZ w64 (s .args .parameter) (s .fits .parameter)) at (c .within .ensures)
+
+parameter-in : (c : tie.Else3) → inRange (pos 0) (pos 100) (c .before .before .before .before .before .before .args .parameter) ≡ true
+parameter-in c = sym (parameter-is (c .before)) ∙ not-false _ (c .if3 .left)
+
+all-within-requires : tie.Need-all-within-requires
+all-within-requires c κs = search needs
+
+returns : tie.Need-returns
+returns c = simp (shadow-off c)
+
+sub-all-within : tie.Need-sub-all-within
+sub-all-within c = search needs
+
+all-within-requires-2 : tie.Need-all-within-requires-2
+all-within-requires-2 c κs = search needs
+
+returns-2 : tie.Need-returns-2
+returns-2 c = simp (shadow-in (c .before .before), sym (c .before .all-within2 .ensures) ∙ not-true _ (c .if2 .taken))
+
+within-requires : tie.Need-within-requires
+within-requires c κs = search needs
+
+returns-3 : tie.Need-returns-3
+returns-3 c = simp (shadow-in (c .before .before .before .before), lmp-in (c .before .before), sym (parameter-is (c .before)) ∙ not-true _ (c .if3 .taken))
+
+factors-good-requires : tie.Need-factors-good-requires
+factors-good-requires c κs = search needs
+
+returns-4 : tie.Need-returns-4
+returns-4 c = simp (shadow-in (c .before .before .before .before .before), lmp-in (c .before .before .before), parameter-in (c .before)) (c .factors-good .ensures)
+
+pub ranges-good-spec : {M : Type 1} → statement M
+ranges-good-spec =
+    tie.close
+    (tie.spec
+    all-within-requires
+    returns
+    sub-all-within
+    all-within-requires-2
+    returns-2
+    within-requires
+    returns-3
+    factors-good-requires
+    returns-4)

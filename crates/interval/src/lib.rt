@@ -1,0 +1,152 @@
+// An interval as it is read, and its checks (paper 01, Interval and hour: Limits; Refused, by place). The contracts cite specs/Intervals.
+ghost use mathlib.Core.Path.{_≡_};
+ghost use Prim.Native.Nat.{_≤_};
+ghost use lib.ListN.{length};
+ghost use Rattle.curve.specs.Refusals.{outcomeNumber};
+ghost use Rattle.interval.specs.Intervals.{allWithin, factorsGood, rangesGood, outputGood, outputsGood, intervalRefusal};
+use curve::Curve;
+use curve::Outcome;
+use curve::Refusal;
+
+// An interval as it is read: counts may be more than the room. The factor of resource r on constraint c stands at r * 32 + c.
+pub struct Interval {
+    pub constraints: usize,
+    pub shadow: [i64; Interval::MAX_CONSTRAINTS],
+    pub resources: usize,
+    pub lmp: [i64; Interval::MAX_RESOURCES],
+    pub dispatch: [i64; Interval::MAX_RESOURCES],
+    pub available: [i64; Interval::MAX_RESOURCES],
+    pub floor: [i64; Interval::MAX_RESOURCES],
+    pub factors: [i64; Interval::MAX_FACTORS],
+    pub parameter: i64,
+}
+
+// Whether the first n numbers lie between lo and hi.
+fn all_within(numbers: &[i64], n: usize, lo: i64, hi: i64) -> bool
+    requires { ⌜ n ≤ length (now numbers) ⌝ }
+    ensures { λ r. ⌜ r ≡ allWithin lo hi (now (numbers .entry)) n ⌝ }
+{
+    let mut i: usize = 0;
+    while i < n {
+        if !number::within(numbers[i], lo, hi) {
+            return false;
+        }
+        i += 1;
+    }
+    true
+}
+
+// Whether the factors of n resources on m constraints are in range.
+fn factors_good(factors: &[i64], n: usize, m: usize) -> bool
+    requires { ⌜ (length (now factors) ≡ 2048) × ((n ≤ 64) × (m ≤ 32)) ⌝ }
+    ensures { λ r. ⌜ r ≡ factorsGood (now (factors .entry)) n m ⌝ }
+{
+    let mut r: usize = 0;
+    while r < n {
+        let at = r * Interval::MAX_CONSTRAINTS;
+        if !all_within(
+            &factors[at..],
+            m,
+            -Interval::MAX_FACTOR,
+            Interval::MAX_FACTOR,
+        ) {
+            return false;
+        }
+        r += 1;
+    }
+    true
+}
+
+// Whether a resource can be dispatched so: available in range, floor and dispatch not above it.
+fn output_good(available: i64, floor: i64, dispatch: i64) -> bool
+    ensures { λ r. ⌜ r ≡ outputGood available floor dispatch ⌝ }
+{
+    if !number::within(available, 0, Curve::MAX_QUANTITY) {
+        return false;
+    }
+    if !number::within(floor, 0, available) {
+        return false;
+    }
+    number::within(dispatch, 0, available)
+}
+
+// The same of the first n resources.
+fn outputs_good<'a>(available: &'a [i64], floor: &'a [i64], dispatch: &'a [i64], n: usize) -> bool
+    requires { ⌜ (n ≤ length (now available)) × ((n ≤ length (now floor)) × (n ≤ length (now dispatch))) ⌝ }
+    ensures { λ r. ⌜ r ≡ outputsGood (now (available .entry)) (now (floor .entry)) (now (dispatch .entry)) n ⌝ }
+{
+    let mut r: usize = 0;
+    while r < n {
+        if !output_good(available[r], floor[r], dispatch[r]) {
+            return false;
+        }
+        r += 1;
+    }
+    true
+}
+
+// Whether shadow prices, locational prices, parameter and factors are in range, of n resources and m constraints.
+fn ranges_good<'a>(
+    shadow: &'a [i64],
+    lmp: &'a [i64],
+    parameter: i64,
+    factors: &'a [i64],
+    n: usize,
+    m: usize,
+) -> bool
+    requires counts { ⌜ (n ≤ 64) × (m ≤ 32) ⌝ }
+    requires rooms { ⌜ (length (now shadow) ≡ 32) × ((length (now lmp) ≡ 64) × (length (now factors) ≡ 2048)) ⌝ }
+    ensures { λ r. ⌜ r ≡ rangesGood (now (shadow .entry)) (now (lmp .entry)) parameter (now (factors .entry)) n m ⌝ }
+{
+    if !all_within(shadow, m, 0, Interval::MAX_SHADOW) {
+        return false;
+    }
+    if !all_within(lmp, n, -Interval::MAX_LMP, Interval::MAX_LMP) {
+        return false;
+    }
+    if !number::within(parameter, 0, Interval::MAX_PARAMETER) {
+        return false;
+    }
+    factors_good(factors, n, m)
+}
+
+impl Interval {
+    pub const MAX_CONSTRAINTS: usize = 32;
+
+    pub const MAX_RESOURCES: usize = 64;
+
+    pub const MAX_FACTORS: usize = 2048;
+
+    pub const MAX_SHADOW: i64 = 100_000_000;
+
+    pub const MAX_LMP: i64 = 100_000_000;
+
+    pub const MAX_PARAMETER: i64 = 100;
+
+    pub const MAX_FACTOR: i64 = 1_000_000;
+
+    // The lowest of 13 to 16 that applies in an hour of so many resources, or none.
+    pub fn checked(self, resources: usize) -> Outcome
+        ensures { λ r. ⌜ outcomeNumber r ≡ intervalRefusal resources self ⌝ }
+    {
+        let n = self.resources;
+        if n != resources {
+            return Outcome::Refused(Refusal::ResourceCount);
+        }
+        if Interval::MAX_RESOURCES < n {
+            return Outcome::Refused(Refusal::ResourceCount);
+        }
+        let m = self.constraints;
+        let parameter = self.parameter;
+        if Interval::MAX_CONSTRAINTS < m {
+            return Outcome::Refused(Refusal::ConstraintCount);
+        }
+        if !ranges_good(&self.shadow, &self.lmp, parameter, &self.factors, n, m) {
+            return Outcome::Refused(Refusal::IntervalRange);
+        }
+        if !outputs_good(&self.available, &self.floor, &self.dispatch, n) {
+            return Outcome::Refused(Refusal::Output);
+        }
+        Outcome::Accepted
+    }
+}
