@@ -1,0 +1,135 @@
+-- `path::Market::judged` meets its contract. Assumes nothing.
+use mathlib.Core.Path.{_≡_, refl, sym, ap, _∙_}
+use Prim.Native.Nat.{ℕ, _-_, _≤_, _<_}
+use native.Mathlib.Omega.{arith}
+use native.Mathlib.Numerals.{add-one}
+use Rattle.number.specs.Over.{listed, padded}
+use Rattle.number.proofs.Kit.{came}
+use Rattle.number.proofs.OverLaws.{padded-next}
+use Rattle.curve.specs.Refusals.{outcomeNumber}
+use Rattle.curve.proofs.RefusalLaws.{refused-number}
+use Rattle.path.proofs.JudgedLaws.{refused-verdicts}
+use Rattle.interval.specs.Intervals.{intervalRefusal, cell}
+use Rattle.interval.proofs.IntervalLaws.{InLimits, in-limits}
+use Rattle.path.specs.Verdicts.{verdictOf, notBinding}
+use Rattle.path.specs.Judgements.{pathIn, verdictsOf, judgedVerdicts}
+use borrow.Author.Needs.{needs}
+use Rattle.path.proofs.Market.judged.Statement.{statement}
+use Rattle.path.proofs.Market.judged.Tie as tie
+use Rattle.path.proofs.Market.judged.Reads as reads
+use Rattle.path.proofs.Market.judged.Lts as lts
+use Rattle.interval.proofs.Interval.checked.Reads as checked-reads
+use Rattle.path.proofs.Verdict.not_binding.Reads as not-binding-reads
+use Rattle.path.proofs.constraint.judge.Reads as judge-reads
+
+abbrev Inv-loop : tie.InvT-loop
+Inv-loop self v verdicts₀ n outcome m c₀ verdicts c = (c ≤ m) × (verdicts ≡ padded 32 notBinding (listed (λ k. verdictOf (pathIn self v k)) c))
+
+abbrev μ-loop : tie.MeasureT-loop
+μ-loop self v verdicts₀ n outcome m c₀ verdicts c = m - c
+
+-- none of 13 to 16 applies where the outcome is accepted
+passed : (c : tie.After-enum-told Inv-loop μ-loop) → intervalRefusal (c .before .before .before .before .args .t1 .resources) (c .before .before .before .before .args .t2) ≡ 0
+passed c = sym (c .before .before .checked .ensures) ∙ ap outcomeNumber (c .enum-told .given .1)
+
+limits : (c : tie.After-enum-told Inv-loop μ-loop) → InLimits (c .before .before .before .before .args .t1 .resources) (c .before .before .before .before .args .t2)
+limits c = in-limits (c .before .before .before .before .args .t1 .resources) (c .before .before .before .before .args .t2) (passed c)
+
+few : (l : tie.In-loop Inv-loop μ-loop) → l .before .loop .c < 32
+few l = omega (arith, limits (l .before .before) .constraints)
+
+not-binding-requires : tie.Need-not-binding-requires Inv-loop μ-loop
+not-binding-requires c κs = search needs
+
+checked-requires : tie.Need-checked-requires Inv-loop μ-loop
+checked-requires c κs = search needs
+
+enum-told : tie.Need-enum-told Inv-loop μ-loop
+enum-told c = search needs
+
+enum-told-2 : tie.Need-enum-told-2 Inv-loop μ-loop
+enum-told-2 c = search needs
+
+returns : tie.Need-returns Inv-loop μ-loop
+unfolding judgedVerdicts
+returns c =
+    let s = c .before .before .before .before in
+    let k = c .enum-told2 .given in
+    let e : 0 < intervalRefusal (s .args .t1 .resources) (s .args .t2) = rw (← (c .before .before .checked .ensures), k .1) (refused-number (k .0 .0)) in
+    (c .before .before .checked .ensures, rw (c .before .before .before .not-binding .ensures) (sym (refused-verdicts (intervalRefusal (s .args .t1 .resources) (s .args .t2)) (verdictsOf (s .args .t1) (s .args .t2)) e)))
+
+loop-holds : tie.Need-loop-holds Inv-loop μ-loop
+unfolding padded listed
+loop-holds c = (omega arith, rw (c .before .before .before .not-binding .ensures))
+
+mul-shadow : tie.Need-mul-shadow Inv-loop μ-loop
+mul-shadow c = omega (arith, few c)
+
+element-copy-out-shadow : tie.Need-element-copy-out-shadow Inv-loop μ-loop
+element-copy-out-shadow c = omega (arith, few c)
+
+judge-requires : tie.Need-judge-requires Inv-loop μ-loop
+judge-requires c κs =
+    let l = c .before .before .before .before .before .before .before .before .before in
+    let i = limits (l .before .before) in
+    let s = l .before .before .before .before .before .before in
+    let n = s .args .t2 .resources in
+    let e : s .args .t1 .resources ≡ n = sym (i .count) in
+    rw e (record {
+      few = i .few;
+      column = few l;
+      factor-in = λ r h. i .factor r (l .before .loop .c) h (l .loop-test .taken);
+      available-in = i .available;
+      floor-in = i .floor;
+      dispatch-in = i .dispatch;
+    })
+
+mul-verdicts : tie.Need-mul-verdicts Inv-loop μ-loop
+mul-verdicts c = omega (arith, few (c .before .before .before .before .before .before .before .before .before .before))
+
+array-set-from-verdicts : tie.Need-array-set-from-verdicts Inv-loop μ-loop
+array-set-from-verdicts c = omega (arith, few (c .before .before .before .before .before .before .before .before .before .before))
+
+add-c : tie.Need-add-c Inv-loop μ-loop
+add-c c = search needs
+
+loop-less : tie.Need-loop-less Inv-loop μ-loop
+loop-less c = search needs
+
+loop-again : tie.Need-loop-again Inv-loop μ-loop
+loop-again c =
+    let l = c .before .before .before .before .before .before .before .before .before .before in
+    let a = l .before in
+    let s = a .before .before .before .before .before in
+    let f = came (cell (s .args .t2 .shadow) (a .loop .c)) (c .before .before .before .before .before .before .before .before .before .shadow .given) in
+    (omega arith, rw (a .loop .inv .1, simp f at (c .judge .ensures), add-one) (padded-next 32 notBinding (λ k. verdictOf (pathIn (s .args .t1) (s .args .t2) k)) (a .loop .c) (few l)))
+
+returns-2 : tie.Need-returns-2 Inv-loop μ-loop
+unfolding judgedVerdicts verdictsOf
+returns-2 c =
+    let a = c .before in
+    let s = a .before .before .before .before .before in
+    let n : a .loop .c ≡ s .args .t2 .constraints = omega arith in
+    (a .before .before .before .checked .ensures, a .loop .inv .1 ∙ rw (passed (a .before), n))
+
+pub judged-spec : {M : Type 1} → statement M
+judged-spec =
+    tie.close
+    (tie.spec
+    Inv-loop
+    μ-loop
+    not-binding-requires
+    checked-requires
+    enum-told
+    enum-told-2
+    returns
+    loop-holds
+    mul-shadow
+    element-copy-out-shadow
+    judge-requires
+    mul-verdicts
+    array-set-from-verdicts
+    add-c
+    loop-less
+    loop-again
+    returns-2)

@@ -1,0 +1,72 @@
+-- `path::constraint::judge` meets its contract. Assumes nothing.
+use mathlib.Core.Bool.{true, false}
+use mathlib.Core.Path.{_≡_, _∙_}
+use borrow.Author.Needs.{needs}
+use lib.IntN.{pos}
+use lib.Signed.{ltZ}
+use Rattle.number.proofs.Kit.{came}
+use Rattle.number.proofs.TestLaws.{above, not-above}
+use Rattle.path.proofs.JudgeLaws.{not-bound, offers-held, total-fits, judgement}
+use Rattle.path.proofs.constraint.judge.Statement.{statement}
+use Rattle.path.proofs.constraint.judge.Tie as tie
+use Rattle.path.proofs.constraint.judge.Reads as reads
+use Rattle.path.proofs.constraint.judge.Lts as lts
+use Rattle.path.proofs.Verdict.not_binding.Reads as not-binding-reads
+use Rattle.path.proofs.constraint.found.Reads as found-reads
+use Rattle.path.proofs.constraint.offers_of.Reads as offers-of-reads
+use Rattle.path.proofs.constraint.tally_of.Reads as tally-of-reads
+use Rattle.path.proofs.constraint.top_of.Reads as top-of-reads
+
+not-binding-requires : tie.Need-not-binding-requires
+not-binding-requires c κs = search needs
+
+returns : tie.Need-returns
+returns c =
+    let s = c .before .before .args .shadow in
+    c .not-binding .ensures ∙ not-bound _ (not-above s (rw (came s (c .before .before .fits .shadow .sfits)) at (c .before .if1 .taken)))
+
+tally-of-requires : tie.Need-tally-of-requires
+tally-of-requires c κs = search needs
+
+offers-of-requires : tie.Need-offers-of-requires
+offers-of-requires c κs = search needs
+
+top-of-requires : tie.Need-top-of-requires
+top-of-requires c κs =
+    let start = c .before .before .before .before in
+    let a = start .args in
+    offers-held (a .shadow) (a .factors .now) (a .dispatch .now) (a .available .now) (a .floor .now) (a .portfolio .now) (a .sellers .now) (a .resources) (a .c) (start .pre) _ _ (c .before .before .tally-of .ensures) (c .offers-of .ensures)
+
+sub-left : tie.Need-sub-left
+sub-left c =
+    let o = c .before .before .before in
+    let start = o .before .before .before .before in
+    let a = start .args in
+    total-fits (a .shadow) (a .factors .now) (a .dispatch .now) (a .available .now) (a .floor .now) (a .portfolio .now) (a .sellers .now) (a .resources) (a .c) (start .pre)
+    _ _ (o .before .before .tally-of .ensures) (o .offers-of .ensures) _ (c .before .before .top-of .ensures)
+
+found-requires : tie.Need-found-requires
+found-requires c κs = search needs
+
+returns-2 : tie.Need-returns-2
+returns-2 c =
+    let r = c .before .before .before .before in
+    let o = r .before in
+    let start = o .before .before .before .before in
+    let a = start .args in
+    judgement (a .shadow) (a .factors .now) (a .dispatch .now) (a .available .now) (a .floor .now) (a .portfolio .now) (a .sellers .now) (a .resources) (a .c) (start .pre)
+    _ _ (o .before .before .tally-of .ensures) (o .offers-of .ensures) _ (r .top-of .ensures) _
+    (above (a .shadow) (rw (came (a .shadow) (start .fits .shadow .sfits)) at (o .before .before .before .if1 .left))) (c .before .found .ensures)
+
+pub judge-spec : {M : Type 1} → statement M
+judge-spec =
+    tie.close
+    (tie.spec
+    not-binding-requires
+    returns
+    tally-of-requires
+    offers-of-requires
+    top-of-requires
+    sub-left
+    found-requires
+    returns-2)

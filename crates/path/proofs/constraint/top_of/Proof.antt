@@ -1,0 +1,138 @@
+-- `path::constraint::top_of` meets its contract. What is taken and what is still to be taken of k sellers are together what was to be taken of three. Assumes nothing.
+use mathlib.Core.List.{List, []}
+use mathlib.Core.Path.{_≡_, refl, sym, ap, _∙_}
+use Prim.Native.Nat.{ℕ, _≤_, _<_, _+_, _^_}
+use native.Mathlib.Omega.{arith}
+use lib.ListN.{replicate}
+use lib.Pow.{pow-mono}
+use Rattle.path.specs.Paths.{at, top, total, mask}
+use Rattle.path.specs.Verdicts.{topOf}
+use Rattle.path.proofs.TopLaws.{stored, stored-all, total-taken, mask-taken, stored-taken, stopped, total-bound, mask-bound}
+use Rattle.path.proofs.constraint.top_of.Statement.{statement}
+use Rattle.path.proofs.constraint.top_of.Tie as tie
+use Rattle.path.proofs.constraint.top_of.Reads as reads
+use Rattle.path.proofs.constraint.top_of.Lts as lts
+use Rattle.path.proofs.constraint.largest_of.Reads as largest-of-reads
+
+-- t, m and v hold the sellers of w₀ but the k that are still to be taken of w
+record Held-so-far (w₀ w : List ℕ) (t m : ℕ) (v : List ℕ) (k : ℕ) : Type 0 where
+  few : k ≤ 3
+  sum : t + total (top k w 16) ≡ total (top 3 w₀ 16)
+  bits : m + mask (top k w 16) ≡ mask (top 3 w₀ 16)
+  cells : stored (top k w 16) v ≡ stored (top 3 w₀ 16) (replicate 16 0)
+
+-- none is left
+finished : (w₀ w : List ℕ) (t m : ℕ) (v : List ℕ) (k : ℕ) → Held-so-far w₀ w t m v k → top k w 16 ≡ [] → record { total = t; named = m; withheld = v } ≡ topOf (top 3 w₀ 16)
+unfolding total mask stored
+finished w₀ w t m v k h e =
+    let x : t ≡ total (top 3 w₀ 16) = omega (arith, rw e at (h .sum)) in
+    let y : m ≡ mask (top 3 w₀ 16) = omega (arith, rw e at (h .bits)) in
+    let z : v ≡ stored (top 3 w₀ 16) (replicate 16 0) = rw e at (h .cells) in
+    rw (x, y, z, stored-all 3 w₀ 16 16)
+
+abbrev Inv-loop : tie.InvT-loop
+Inv-loop w₀ total₀ named₀ withheld₀ k₀ w total named withheld k = Held-so-far w₀ w total named withheld k
+
+abbrev μ-loop : tie.MeasureT-loop
+μ-loop w₀ total₀ named₀ withheld₀ k₀ w total named withheld k = k
+
+loop-holds : tie.Need-loop-holds Inv-loop μ-loop
+loop-holds c = record { few = omega arith; sum = omega arith; bits = omega arith; cells = refl }
+
+largest-of-requires : tie.Need-largest-of-requires Inv-loop μ-loop
+largest-of-requires c κs = tt
+
+mul-amount : tie.Need-mul-amount Inv-loop μ-loop
+mul-amount c = omega arith
+
+array-read-amount : tie.Need-array-read-amount Inv-loop μ-loop
+array-read-amount c = omega arith
+
+returns : tie.Need-returns Inv-loop μ-loop
+returns c =
+    let l = c .before .before .before .loop in
+    finished _ _ _ _ _ _ (l .inv) (stopped (l .w) 16 _ (c .before .largest-of .ensures .0) (l .k) (c .if1 .taken))
+
+add-total : tie.Need-add-total Inv-loop μ-loop
+add-total c =
+    let l = c .before .before .before .loop in
+    let x : 0 < at (l .w) (c .before .largest-of .result) = omega arith in
+    omega (arith, l .inv .sum, total-taken (l .w) 16 _ (c .before .largest-of .ensures .0) (l .k) (c .before .before .loop-test .taken) x, total-bound 64000000000000 3 (c .before .before .before .before .args .offers) 16 (c .before .before .before .before .pre))
+
+cast-named : tie.Need-cast-named Inv-loop μ-loop
+cast-named c = omega arith
+
+shl-named : tie.Need-shl-named Inv-loop μ-loop
+shl-named c = omega arith
+
+add-named : tie.Need-add-named Inv-loop μ-loop
+add-named c =
+    let l = c .before .before .before .loop in
+    let p = c .before .largest-of .result in
+    let x : 0 < at (l .w) p = omega arith in
+    let b : 2 ^ p ≤ 2 ^ 15 = pow-mono {i = p} {j = 15} (omega arith) in
+    omega (arith, l .inv .bits, mask-taken (l .w) 16 p (c .before .largest-of .ensures .0) (l .k) (c .before .before .loop-test .taken) x, mask-bound 3 (c .before .before .before .before .args .offers))
+
+mul-withheld : tie.Need-mul-withheld Inv-loop μ-loop
+mul-withheld c = omega arith
+
+array-write-withheld : tie.Need-array-write-withheld Inv-loop μ-loop
+array-write-withheld c = omega arith
+
+mul-w : tie.Need-mul-w Inv-loop μ-loop
+mul-w c = omega arith
+
+array-write-w : tie.Need-array-write-w Inv-loop μ-loop
+array-write-w c = omega arith
+
+sub-k : tie.Need-sub-k Inv-loop μ-loop
+sub-k c = omega arith
+
+loop-less : tie.Need-loop-less Inv-loop μ-loop
+loop-less c = omega arith
+
+loop-again : tie.Need-loop-again Inv-loop μ-loop
+loop-again c =
+    let l = c .before .before .before .loop in
+    let p = c .before .largest-of .result in
+    let e = c .before .largest-of .ensures .0 in
+    let t = c .before .before .loop-test .taken in
+    let x : 0 < at (l .w) p = omega arith in
+    let b : 2 ^ p ≤ 2 ^ 15 = pow-mono {i = p} {j = 15} (omega arith) in
+    record {
+      few = omega (arith, l .inv .few);
+      sum = omega (arith, l .inv .sum, total-taken (l .w) 16 p e (l .k) t x);
+      bits = omega (arith, l .inv .bits, mask-taken (l .w) 16 p e (l .k) t x);
+      cells = sym (stored-taken (l .w) 16 p e (l .k) (l .withheld) t x) ∙ l .inv .cells;
+    }
+
+returns-2 : tie.Need-returns-2 Inv-loop μ-loop
+unfolding top
+returns-2 c =
+    let l = c .before .loop in
+    let z : l .k ≡ 0 = omega arith in
+    finished _ _ _ _ _ _ (l .inv) (rw z)
+
+pub top-of-spec : {M : Type 1} → statement M
+top-of-spec =
+    tie.close
+    (tie.spec
+    Inv-loop
+    μ-loop
+    loop-holds
+    largest-of-requires
+    mul-amount
+    array-read-amount
+    returns
+    add-total
+    cast-named
+    shl-named
+    add-named
+    mul-withheld
+    array-write-withheld
+    mul-w
+    array-write-w
+    sub-k
+    loop-less
+    loop-again
+    returns-2)
