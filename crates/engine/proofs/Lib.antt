@@ -1,1 +1,20 @@
--- Laws and theorems of the hour.
+-- Laws of opening and interval; then demand 3 and the other theorems; the marked cases.
+pub mod OpeningLaws
+pub mod WeightLaws
+pub mod LimitLaws
+pub mod RowLaws
+pub mod AnswerLaws
+pub mod CellLaws
+pub mod RisingLaws
+pub mod AcceptedOpening
+pub mod MarketLaws
+pub mod KeptLaws
+pub mod CallLaws
+pub mod Caps
+pub mod CurveShape
+pub mod Demand3
+pub mod IntervalStep
+pub mod FourIntervals
+pub mod CaseT
+pub mod Marked
+pub mod WorkedHour

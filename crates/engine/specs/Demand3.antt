@@ -24,9 +24,10 @@ use Rattle.path.specs.Paths.{Path, NonCompetitive}
 use Rattle.path.specs.declared.Market.{Market}
 use Rattle.engine.specs.Cuts.{cutOf}
 use Rattle.engine.specs.Hours.{curveIn, hourAfterAll}
-use Rattle.engine.specs.Openings.{resourceAt, sellerAt, defaultBy, marketOf, openedHour}
+use Rattle.engine.specs.Openings.{resourceAt, sellerAt, marketOf, openedHour}
 use Rattle.engine.specs.declared.Opening.{Opening}
 use Rattle.engine.specs.declared.Hour.{Hour}
+use Rattle.resource.specs.Resources.{defaultBy}
 
 -- ---- the submitted bid, the default curve and their prices
 -- "The submitted price is the price of that quantity in the bid that opening took, the default price its price in the resource's default curve."

@@ -5,7 +5,6 @@ use lib.Dec.{ltb}
 use lib.ListN.{getD, replicate}
 use Rattle.number.specs.Over.{upTo}
 use Rattle.curve.specs.Refusals.{unless, _then_}
-use Rattle.curve.specs.Curves.{blankCurve}
 use Rattle.curve.specs.declared.Curve.{Curve}
 use Rattle.mitigation.specs.Mitigation.{lowered, mitigated}
 use Rattle.mitigation.specs.declared.Mitigated.{Mitigated}
@@ -16,14 +15,12 @@ use Rattle.interval.specs.declared.Interval.{Interval}
 use Rattle.path.specs.Judgements.{verdictsOf, verdictsUnless}
 use Rattle.path.specs.declared.Market.{Market}
 use Rattle.path.specs.declared.Verdict.{Verdict}
+use Rattle.resource.specs.Resources.{blankRow}
 use Rattle.engine.specs.Cuts.{cutOf}
-use Rattle.engine.specs.declared.Row.{Row}
+use Rattle.resource.specs.declared.Row.{Row}
 use Rattle.engine.specs.declared.Hour.{Hour}
 
 -- ---- blank values, past what is used and in a refusal
-abbrev pub blankRow : Row
-blankRow = record { bid = blankCurve; default = blankCurve; floor = Uncut }
-
 abbrev pub blankMarket : Market
 blankMarket = record { resources = 0; portfolio = replicate 64 0; seller = replicate 16 0 }
 

@@ -9,20 +9,15 @@ use lib.Signed.{leZ, ltZ}
 use Rattle.number.specs.Order.{inRange, natOf}
 use Rattle.number.specs.Over.{allTo, listed, padded}
 use Rattle.curve.specs.Refusals.{unless, _then_, eachTo}
-use Rattle.curve.specs.Curves.{stepsOf, endOf, curveOf, bidRefusal, defaultRefusal}
 use Rattle.curve.specs.declared.RawCurve.{RawCurve}
-use Rattle.curve.specs.declared.Curve.{Curve}
-use Rattle.mitigation.specs.declared.FloorPrice.the-variants.{Uncut}
-use Rattle.cost.specs.Costs.{costRefusal, costCurve}
 use Rattle.cost.specs.declared.Costs.{Costs}
 use Rattle.path.specs.declared.Market.{Market}
-use Rattle.engine.specs.Hours.{blankRow, blankHour}
-use Rattle.engine.specs.declared.Source.{Source}
-use Rattle.engine.specs.declared.Source.the-variants as source
-use Rattle.engine.specs.declared.Resource.{Resource}
+use Rattle.engine.specs.Hours.{blankHour}
+use Rattle.resource.specs.declared.Source.the-variants as source
+use Rattle.resource.specs.declared.Resource.{Resource}
 use Rattle.engine.specs.declared.Opening.{Opening}
-use Rattle.engine.specs.declared.Row.{Row}
 use Rattle.engine.specs.declared.Hour.{Hour}
+use Rattle.resource.specs.Resources.{blankRow, resourceRefusal, rowOf}
 
 -- ---- the data
 -- what a read past the end of an array gives
@@ -42,11 +37,6 @@ resourceAt o r = getD (o .list) r noResource
 abbrev pub sellerAt : Opening → ℕ → ℤ
 sellerAt o p = getD (o .sellers) p (pos 0)
 
--- the default curve of a resource, from its costs or from its pack
-abbrev pub defaultBy : Source → Resource → Curve
-defaultBy source.Costs x = costCurve (x .costs)
-defaultBy source.Pack x = curveOf (x .pack)
-
 -- ---- the checks
 -- 9: month, portfolio and resource count
 abbrev pub countsGood : Opening → Bool
@@ -62,32 +52,12 @@ ownersGood o = allTo (λ r. leZ (pos 0) (resourceAt o r .portfolio) && ltZ (reso
 abbrev pub membersGood : Opening → Bool
 membersGood o = sellersGood o && ownersGood o
 
--- costs 4 to 8, or the pack's curve 1 to 3
-abbrev pub sourceRefusal : Source → Resource → ℕ
-sourceRefusal source.Costs x = costRefusal (x .costs)
-sourceRefusal source.Pack x = defaultRefusal (x .pack)
-
--- 11: the bid lies inside its default curve
-unfoldable pub liesInside : Curve → Curve → Bool
-liesInside bid default = leb (default .start) (bid .start) && leb (endOf (bid .start) (stepsOf bid)) (endOf (default .start) (stepsOf default))
-
--- one resource in a month: bid, costs or pack, 11
-unfoldable pub resourceRefusal : ℕ → Resource → ℕ
-resourceRefusal month x =
-    bidRefusal month (x .bid)
-    then sourceRefusal (x .source) x
-    then unless (liesInside (curveOf (x .bid)) (defaultBy (x .source) x)) 11
-
 -- 9, then 10, then each resource in number order
 unfoldable pub openingRefusal : Opening → ℕ
 openingRefusal o =
     unless (countsGood o) 9 then unless (membersGood o) 10 then eachTo (λ r. resourceRefusal (natOf (o .month)) (resourceAt o r)) (o .resources)
 
 -- ---- the fresh hour
--- a resource's row: its bid, its default curve, and no cut
-unfoldable pub rowOf : Resource → Row
-rowOf x = record { bid = curveOf (x .bid); default = defaultBy (x .source) x; floor = Uncut }
-
 -- who owns what: portfolios that are not declared are net buyers
 unfoldable pub marketOf : Opening → Market
 marketOf o = record {
@@ -99,11 +69,7 @@ marketOf o = record {
 unfoldable pub freshHour : Opening → Hour
 freshHour o = record { accepted = 0; market = marketOf o; rows = padded 64 blankRow (listed (λ r. rowOf (resourceAt o r)) (o .resources)) }
 
--- a refusal returns its number alone: the row and the hour are blank
-abbrev pub rowUnless : ℕ → Row → Row
-rowUnless zero x = x
-rowUnless (suc n) x = blankRow
-
+-- a refusal returns its number alone: the hour is blank
 abbrev pub hourUnless : ℕ → Hour → Hour
 hourUnless zero h = h
 hourUnless (suc n) h = blankHour

@@ -1,28 +1,28 @@
 // Opening an hour and taking its intervals (paper 01, Interval and hour; 31.2.3, 34.1.5; Refused, by place: 9 to 16).
-// The contracts cite specs/Openings, specs/Hours and specs/Cuts.
-use cost::Costs;
+// The contracts cite specs/Openings, specs/Hours, specs/Cuts and specs/Weights.
+mod fresh;
+
+ghost use mathlib.Core.Path.{_≡_};
+ghost use Prim.Native.Nat.{_≤_};
+ghost use lib.IntN.{natAbs};
+ghost use lib.ListN.{length};
+ghost use Rattle.curve.specs.Refusals.{outcomeNumber};
+ghost use Rattle.interval.specs.Intervals.{intervalRefusal};
+ghost use Rattle.engine.specs.Cuts.{cutBy};
+ghost use Rattle.engine.specs.Weights as Weights;
+ghost use Rattle.engine.specs.Weights.{weightsOf, weighed, Weighable, cutRows};
+ghost use Rattle.engine.specs.Hours.{cutRow, rowCurve, curveIn, hourRefusal, hourAfter, hourVerdicts};
 use curve::Curve;
 use curve::Outcome;
-use curve::RawCurve;
+use curve::Refusal;
 use interval::Interval;
 use mitigation::FloorPrice;
+use mitigation::Mitigated;
+use path::Finding;
 use path::Market;
 use path::Verdict;
-
-// Where a resource's default curve comes from.
-pub enum Source {
-    Costs,
-    Pack,
-}
-
-// A resource as opening reads it. Of costs and pack only the one that the source names counts.
-pub struct Resource {
-    pub portfolio: i64,
-    pub bid: RawCurve,
-    pub source: Source,
-    pub costs: Costs,
-    pub pack: RawCurve,
-}
+use resource::Resource;
+use resource::Row;
 
 // What an hour is opened from: counts may be more than the room.
 pub struct Opening {
@@ -31,13 +31,6 @@ pub struct Opening {
     pub sellers: [i64; Market::MAX_PORTFOLIOS],
     pub resources: usize,
     pub list: [Resource; Hour::MAX_RESOURCES],
-}
-
-// A resource of an hour: its submitted bid, its default curve, and the lowest floor price of the accepted intervals that cut it.
-pub struct Row {
-    pub bid: Curve,
-    pub default: Curve,
-    pub floor: FloorPrice,
 }
 
 // An hour: how many intervals it has accepted, who owns what, and its resources.
@@ -64,4 +57,165 @@ pub struct Answer {
     pub outcome: Outcome,
     pub hour: Hour,
     pub verdicts: [Verdict; Interval::MAX_CONSTRAINTS],
+}
+
+// The shadow price of a constraint, where its finding lets it enter the component.
+fn weight(finding: Finding, shadow: i64) -> i64
+    ensures { λ r. ⌜ r ≡ Weights.weight finding shadow ⌝ }
+{
+    match finding {
+        Finding::Competitive => 0,
+        Finding::NonCompetitive => shadow,
+        Finding::NotBinding => 0,
+    }
+}
+
+// The weights of m constraints in the component.
+fn weights_of(
+    shadow: &[i64],
+    verdicts: [Verdict; Interval::MAX_CONSTRAINTS],
+    m: usize,
+) -> [i64; Interval::MAX_CONSTRAINTS]
+    requires { ⌜ (length (now shadow) ≡ 32) × (m ≤ 32) ⌝ }
+    ensures { λ r. ⌜ r ≡ weightsOf (now (shadow .entry)) verdicts m ⌝ }
+{
+    let mut weights = [0i64; Interval::MAX_CONSTRAINTS];
+    let mut c: usize = 0;
+    while c < m {
+        let verdict = verdicts[c];
+        let finding = verdict.finding;
+        weights[c] = weight(finding, shadow[c]);
+        c += 1;
+    }
+    weights
+}
+
+// C, the non-competitive congestion component of resource r over m constraints.
+fn component_of<'a>(factors: &'a [i64], weights: &'a [i64], r: usize, m: usize) -> i64
+    requires { ⌜ Weighable (now factors) (now weights) r m ⌝ }
+    ensures { λ z. ⌜ z ≡ weighed (now (factors .entry)) (now (weights .entry)) r m ⌝ }
+{
+    let mut sum: i64 = 0;
+    let mut c: usize = 0;
+    while c < m {
+        sum += factors[r * Interval::MAX_CONSTRAINTS + c] * weights[c];
+        c += 1;
+    }
+    -sum
+}
+
+// The cut of a resource: the floor price, where dispatch and component are above 0.
+fn cut_by(dispatch: i64, lmp: i64, component: i64, parameter: i64) -> FloorPrice
+    requires { ⌜ (natAbs lmp ≤ 100000000) × ((natAbs component ≤ 3200000000000000) × (natAbs parameter ≤ 100)) ⌝ }
+    ensures { λ r. ⌜ r ≡ cutBy dispatch lmp component parameter ⌝ }
+{
+    if dispatch <= 0 {
+        return FloorPrice::Uncut;
+    }
+    if component <= 0 {
+        return FloorPrice::Uncut;
+    }
+    let competitive = number::ceil_by(lmp * 1_000_000 - component, 1_000_000);
+    FloorPrice::Cut(competitive + parameter)
+}
+
+// The row after a cut.
+fn cut_row(row: Row, cut: FloorPrice) -> Row
+    ensures { λ r. ⌜ r ≡ cutRow cut row ⌝ }
+{
+    let bid = row.bid;
+    let default = row.default;
+    let floor = row.floor;
+    Row {
+        bid: bid,
+        default: default,
+        floor: floor.lowered(cut),
+    }
+}
+
+// The present curve of a row.
+pub fn row_curve(row: Row) -> Mitigated
+    ensures { λ r. ⌜ r ≡ rowCurve row ⌝ }
+{
+    let bid = row.bid;
+    let default = row.default;
+    let floor = row.floor;
+    Mitigated::of(bid, default, floor)
+}
+
+impl Hour {
+    // The present curve of resource r: a blank one where the hour has no such resource.
+    pub fn curve(self, r: usize) -> Mitigated
+        ensures { λ x. ⌜ x ≡ curveIn self r ⌝ }
+    {
+        if r < Hour::MAX_RESOURCES {
+            let row = self.rows[r];
+            row_curve(row)
+        } else {
+            Mitigated::of(Curve::blank(), Curve::blank(), FloorPrice::Uncut)
+        }
+    }
+
+    // The next hour and the verdicts, or the lowest of refusals 12 to 16 that applies and the hour as it was.
+    pub fn interval(self, v: Interval) -> Answer
+        ensures number { λ r. ⌜ outcomeNumber (r .outcome) ≡ hourRefusal self v ⌝ }
+        ensures hour { λ r. ⌜ r .hour ≡ hourAfter self v ⌝ }
+        ensures verdicts { λ r. ⌜ r .verdicts ≡ hourVerdicts self v ⌝ }
+    {
+        let accepted = self.accepted;
+        if Hour::MAX_INTERVALS <= accepted {
+            return Answer {
+                outcome: Outcome::Refused(Refusal::HourFull),
+                hour: self,
+                verdicts: [Verdict::not_binding(); Interval::MAX_CONSTRAINTS],
+            };
+        }
+        let market = self.market;
+        let judged = market.judged(v);
+        let outcome = judged.outcome;
+        let verdicts = judged.verdicts;
+        let Outcome::Accepted = outcome else {
+            return Answer {
+                outcome: outcome,
+                hour: self,
+                verdicts: verdicts,
+            };
+        };
+        let rows = self.rows;
+        Answer {
+            outcome: outcome,
+            hour: Hour {
+                accepted: accepted + 1,
+                market: market,
+                rows: cut_rows(rows, v, verdicts),
+            },
+            verdicts: verdicts,
+        }
+    }
+}
+
+// The rows of an hour after an interval that it accepts.
+fn cut_rows(
+    rows: [Row; Hour::MAX_RESOURCES],
+    v: Interval,
+    verdicts: [Verdict; Interval::MAX_CONSTRAINTS],
+) -> [Row; Hour::MAX_RESOURCES]
+    requires { ⌜ intervalRefusal (v .resources) v ≡ 0 ⌝ }
+    ensures { λ r. ⌜ r ≡ cutRows v (weightsOf (v .shadow) verdicts (v .constraints)) (v .resources) rows ⌝ }
+{
+    let n = v.resources;
+    let m = v.constraints;
+    let parameter = v.parameter;
+    let weights = weights_of(&v.shadow, verdicts, m);
+    let mut next = rows;
+    let mut r: usize = 0;
+    while r < n {
+        let row = next[r];
+        let component = component_of(&v.factors, &weights, r, m);
+        let dispatch = v.dispatch[r];
+        let lmp = v.lmp[r];
+        next[r] = cut_row(row, cut_by(dispatch, lmp, component, parameter));
+        r += 1;
+    }
+    next
 }

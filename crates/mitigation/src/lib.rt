@@ -3,6 +3,7 @@ ghost use mathlib.Core.Path.{_≡_};
 ghost use Prim.Native.Nat.{_≤_};
 ghost use lib.ListN.{length};
 ghost use Rattle.curve.specs.Curves.{stepsOf, quote};
+ghost use Rattle.mitigation.specs.Mitigation.{lowered as loweredBy};
 ghost use Rattle.mitigation.specs.Mitigation.{usedSteps, capped, segments, joined, mitigatedOf, mitigated};
 use curve::Curve;
 use curve::Quote;
@@ -28,6 +29,21 @@ fn cap(floor: FloorPrice, b: i64, d: i64) -> i64
     match floor {
         FloorPrice::Uncut => b,
         FloorPrice::Cut(l) => number::min(b, number::max(d, l)),
+    }
+}
+
+impl FloorPrice {
+    // The lowest floor price after a further cut, or after none.
+    pub fn lowered(self, cut: FloorPrice) -> FloorPrice
+        ensures { λ r. ⌜ r ≡ loweredBy self cut ⌝ }
+    {
+        match cut {
+            FloorPrice::Uncut => self,
+            FloorPrice::Cut(l) => match self {
+                FloorPrice::Uncut => FloorPrice::Cut(l),
+                FloorPrice::Cut(k) => FloorPrice::Cut(number::min(k, l)),
+            },
+        }
     }
 }
 

@@ -1,0 +1,100 @@
+-- What an accepted opening is like: its counts, its bids and default curves, and the rows of its fresh hour.
+use mathlib.Core.Bool.{true, _&&_}
+use mathlib.Core.List.{List}
+use mathlib.Core.Path.{_≡_}
+use Prim.Native.Nat.{ℕ, _-_, _≤_, _<_}
+use native.Mathlib.Omega.{arith}
+use borrow.Author.Tests.{leb-true}
+use lib.Dec.{leb}
+use lib.IntN.{pos}
+use lib.ListN.{length, replicate, length-append}
+use Rattle.number.specs.Order.{inRange, natOf}
+use Rattle.number.specs.Over.{listed, padded}
+use Rattle.number.proofs.OverLaws.{both, listed-length}
+use Rattle.curve.specs.Refusals.{unless, _then_, eachTo}
+use Rattle.curve.specs.Curves.{bidRefusal, lowestBid, highestBid, lowestDefault, highestDefault}
+use Rattle.curve.specs.Meaning.{Sound}
+use Rattle.curve.proofs.CheckLaws.{then-both, unless-holds, each-at, checked-sound}
+use Rattle.mitigation.specs.Meaning.{Inside}
+use Rattle.cost.proofs.DefaultCurve.{cost-sound}
+use Rattle.engine.specs.Hours.{noRow, rowAt}
+use Rattle.engine.specs.Openings.{resourceAt, countsGood, membersGood, openingRefusal, freshHour, openedHour}
+use Rattle.engine.specs.Demand3.{submitted, defaultOf}
+use Rattle.resource.specs.declared.Source.{Source}
+use Rattle.resource.specs.declared.Source.the-variants as source
+use Rattle.resource.specs.declared.Resource.{Resource}
+use Rattle.engine.specs.declared.Opening.{Opening}
+use Rattle.resource.specs.declared.Row.{Row}
+use Rattle.engine.proofs.CellLaws.{cell-listed}
+use Rattle.resource.specs.Resources.{blankRow, defaultBy, liesInside, resourceRefusal, rowOf, sourceRefusal}
+
+-- a default curve that passes its checks is sound
+default-sound-by : (s : Source) (x : Resource) → sourceRefusal s x ≡ 0 → Sound (defaultBy s x)
+default-sound-by source.Costs x e = cost-sound (x .costs) e
+default-sound-by source.Pack x e = checked-sound lowestDefault highestDefault (x .pack) e
+
+module _ (o : Opening) (accepted : openingRefusal o ≡ 0) where
+  -- opening hands back the fresh hour
+  pub opened-hour : openedHour o ≡ freshHour o
+  unfolding openedHour
+  opened-hour = rw accepted
+
+  -- 9 and every resource's check let it pass
+  checks : (countsGood o ≡ true) × (eachTo (λ r. resourceRefusal (natOf (o .month)) (resourceAt o r)) (o .resources) ≡ 0)
+  unfolding openingRefusal
+  checks =
+      let x = then-both (unless (countsGood o) 9 then unless (membersGood o) 10) (eachTo (λ r. resourceRefusal (natOf (o .month)) (resourceAt o r)) (o .resources)) accepted in
+      let y = then-both (unless (countsGood o) 9) (unless (membersGood o) 10) (x .0) in
+      (unless-holds (countsGood o) 8 (y .0), x .1)
+
+  -- at most 16 portfolios, and at least one resource
+  pub few : (o .portfolios ≤ 16) × (0 < o .resources)
+  few =
+      let counts = both (leb 1 (o .portfolios) && leb (o .portfolios) 16) (leb 1 (o .resources) && leb (o .resources) 64) (both (inRange (pos 1) (pos 1200) (o .month)) _ (checks .0) .1) in
+      let p = both (leb 1 (o .portfolios)) (leb (o .portfolios) 16) (counts .0) in
+      let r = both (leb 1 (o .resources)) (leb (o .resources) 64) (counts .1) in
+      (leb-true _ _ (p .1), leb-true _ _ (r .0))
+
+  module _ (r : ℕ) (l : r < o .resources) where
+    -- bid, costs or pack, and 11 let it pass
+    resource-checks : (bidRefusal (natOf (o .month)) (resourceAt o r .bid) ≡ 0)
+        × (sourceRefusal (resourceAt o r .source) (resourceAt o r) ≡ 0) × (liesInside (submitted o r) (defaultOf o r) ≡ true)
+    unfolding resourceRefusal
+    resource-checks =
+        let x = resourceAt o r in
+        let first = bidRefusal (natOf (o .month)) (x .bid) in
+        let second = sourceRefusal (x .source) x in
+        let third = unless (liesInside (submitted o r) (defaultOf o r)) 11 in
+        let good : resourceRefusal (natOf (o .month)) x ≡ 0 = each-at (λ i. resourceRefusal (natOf (o .month)) (resourceAt o i)) (o .resources) (checks .1) r l in
+        let y = then-both (first then second) third good in
+        let z = then-both first second (y .0) in
+        (z .0, z .1, unless-holds (liesInside (submitted o r) (defaultOf o r)) 10 (y .1))
+
+    -- the submitted bid has at most ten steps, rises and never falls
+    pub bid-sound : Sound (submitted o r)
+    bid-sound = checked-sound lowestBid (highestBid (natOf (o .month))) (resourceAt o r .bid) (resource-checks .0)
+
+    -- so does its default curve
+    pub default-sound : Sound (defaultOf o r)
+    default-sound = default-sound-by (resourceAt o r .source) (resourceAt o r) (resource-checks .1)
+
+    -- the bid reaches nowhere outside it
+    pub bid-inside : Inside (submitted o r) (defaultOf o r)
+    unfolding liesInside
+    bid-inside =
+        let b = both _ _ (resource-checks .2) in
+        record { begins = leb-true _ _ (b .0); ends = leb-true _ _ (b .1) }
+
+-- ---- the fresh hour
+module _ (o : Opening) where
+  -- a row for each resource
+  pub fresh-row : (r : ℕ) → r < o .resources → rowAt (freshHour o) r ≡ rowOf (resourceAt o r)
+  unfolding freshHour rowOf
+  fresh-row r l = cell-listed 64 blankRow noRow (λ i. rowOf (resourceAt o i)) (o .resources) r l
+
+  -- and room for them all
+  pub fresh-room : o .resources ≤ length (freshHour o .rows)
+  unfolding freshHour padded
+  fresh-room =
+      let rows : List Row = listed (λ i. rowOf (resourceAt o i)) (o .resources) in
+      omega (arith, listed-length (λ i. rowOf (resourceAt o i)) (o .resources), length-append rows (replicate (64 - length rows) blankRow))

@@ -1,0 +1,71 @@
+-- `engine::Hour::curve` meets its contract. Assumes nothing.
+use borrow.Author.Needs.{needs}
+use mathlib.Core.Path.{_≡_, refl, sym, ap, ap₂, _∙_}
+use Prim.Native.Nat.{_≤_}
+use native.Mathlib.Omega.{arith}
+use lib.ListN.{length, length-map, List·getD-eq-default}
+use Rattle.number.specs.Over.{padded}
+use Rattle.curve.specs.Curves.{blankCurve}
+use Rattle.curve.specs.declared.Curve.{Curve}
+use Rattle.mitigation.specs.Mitigation.{segmentsN, joined, mitigated}
+use Rattle.mitigation.specs.declared.FloorPrice.the-variants.{Uncut}
+use Rattle.engine.specs.Hours.{noRow, rowCurve, curveIn}
+use Rattle.engine.proofs.Hour.curve.Statement.{statement}
+use Rattle.engine.proofs.Hour.curve.Tie as tie
+use Rattle.engine.proofs.Hour.curve.Reads as reads
+use Rattle.engine.proofs.Hour.curve.Lts as lts
+use Rattle.curve.proofs.Curve.blank.Reads as blank-reads
+use Rattle.engine.proofs.row_curve.Reads as row-curve-reads
+use Rattle.mitigation.proofs.Mitigated.of.Reads as of-reads
+
+-- what the type says: the array has 64 rows
+rows-length : (c : tie.Start) → length (c .args .t1 .rows) ≡ 64
+rows-length c = simp length-map at (c .good .0 .1 .1 .1 .1 .0 .1 .0 .1)
+
+-- a row past the end is as blank as can be
+nothing : mitigated Uncut blankCurve blankCurve ≡ rowCurve noRow
+unfolding mitigated segmentsN joined blankCurve padded
+nothing = refl
+
+mul-row : tie.Need-mul-row
+mul-row c = search needs
+
+element-copy-out-row : tie.Need-element-copy-out-row
+element-copy-out-row c = search needs
+
+row-curve-requires : tie.Need-row-curve-requires
+row-curve-requires c κs = search needs
+
+blank-requires : tie.Need-blank-requires
+blank-requires c κs = search needs
+
+blank-requires-2 : tie.Need-blank-requires-2
+blank-requires-2 c κs = search needs
+
+of-requires : tie.Need-of-requires
+of-requires c κs = search needs
+
+returns : tie.Need-returns
+unfolding curveIn
+returns c = c .row-curve .ensures
+
+returns-2 : tie.Need-returns-2
+unfolding curveIn
+returns-2 c =
+    let s = c .before .before .before .before in
+    let past : length (s .args .t1 .rows) ≤ s .args .r = omega (arith, rows-length s) in
+    c .of .ensures ∙ ap₂ (λ (x y : Curve). mitigated Uncut x y) (c .before .before .blank .ensures) (c .before .blank2 .ensures) ∙ nothing
+    ∙ ap rowCurve (sym (List·getD-eq-default (s .args .t1 .rows) noRow past))
+
+pub curve-spec : {M : Type 1} → statement M
+curve-spec =
+    tie.close
+    (tie.spec
+    mul-row
+    element-copy-out-row
+    row-curve-requires
+    blank-requires
+    blank-requires-2
+    of-requires
+    returns
+    returns-2)

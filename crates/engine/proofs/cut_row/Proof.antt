@@ -1,0 +1,16 @@
+-- `engine::cut_row` meets its contract. Assumes nothing.
+use borrow.Author.Needs.{needs}
+use Rattle.engine.proofs.cut_row.Statement.{statement}
+use Rattle.engine.proofs.cut_row.Tie as tie
+use Rattle.engine.proofs.cut_row.Reads as reads
+use Rattle.engine.proofs.cut_row.Lts as lts
+use Rattle.mitigation.proofs.FloorPrice.lowered.Reads as lowered-reads
+
+lowered-requires : tie.Need-lowered-requires
+lowered-requires c κs = search needs
+
+returns : tie.Need-returns
+returns c = rw (c .lowered .ensures)
+
+pub cut-row-spec : {M : Type 1} → statement M
+cut-row-spec = tie.close (tie.spec lowered-requires returns)

@@ -1,0 +1,2 @@
+-- Laws of a resource's opening.
+pub mod ResourceLaws

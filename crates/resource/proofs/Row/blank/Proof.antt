@@ -1,0 +1,16 @@
+-- `resource::Row::blank` meets its contract. Assumes nothing.
+use borrow.Author.Needs.{needs}
+use Rattle.resource.proofs.Row.blank.Statement.{statement}
+use Rattle.resource.proofs.Row.blank.Tie as tie
+
+blank-requires : tie.Need-blank-requires
+blank-requires c κs = search needs
+
+blank-requires-2 : tie.Need-blank-requires-2
+blank-requires-2 c κs = search needs
+
+returns : tie.Need-returns
+returns c = rw (c .blank2 .ensures, c .before .blank .ensures)
+
+pub blank-spec : {M : Type 1} → statement M
+blank-spec = tie.close (tie.spec blank-requires blank-requires-2 returns)

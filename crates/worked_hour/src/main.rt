@@ -1,0 +1,195 @@
+// Runs one hour through the public calls and prints each answer: two portfolios, a default curve from costs and one from a pack,
+// a refused call in the middle, four accepted calls and a fifth. Resource 0 is paper 01's Case T, resource 1 its P9.
+use cost::Costs;
+use cost::Point;
+use curve::Outcome;
+use curve::RawCurve;
+use curve::RawStep;
+use engine::Hour;
+use engine::Opening;
+use interval::Interval;
+use libc::STDOUT_FILENO;
+use mitigation::Mitigated;
+use path::Verdict;
+use resource::Resource;
+use resource::Source;
+
+fn number_of(outcome: Outcome) -> u64 {
+    match outcome {
+        Outcome::Accepted => 0,
+        Outcome::Refused(refusal) => refusal.number(),
+    }
+}
+
+fn print(label: &[u8], n: u64) {
+    io::write_all(STDOUT_FILENO, label);
+    io::print_decimal(STDOUT_FILENO, n);
+}
+
+// A line for the answer: the refusal's number, or 0.
+fn print_outcome(label: &[u8], outcome: Outcome) {
+    print(label, number_of(outcome));
+    io::write_all(STDOUT_FILENO, b"\n");
+}
+
+// A line for a verdict: finding, demand, left and how many sellers are named.
+fn print_verdict(v: Verdict) {
+    let finding = v.finding;
+    print(b"verdict ", finding.number());
+    print(b" ", v.demand);
+    print(b" ", v.left);
+    print(b" sellers ", v.sellers_named() as u64);
+    io::write_all(STDOUT_FILENO, b"\n");
+}
+
+// A line for a curve: resource, then end and price of each step.
+fn print_curve(r: u64, c: Mitigated) {
+    print(b"curve ", r);
+    let mut i: usize = 0;
+    while i < Mitigated::MAX_STEPS {
+        if i < c.count {
+            let step = c.steps[i];
+            print(b" ", step.end);
+            print(b" ", number::whole(step.price));
+        }
+        i += 1;
+    }
+    io::write_all(STDOUT_FILENO, b"\n");
+}
+
+fn print_curves(hour: Hour) {
+    print_curve(0, hour.curve(0));
+    print_curve(1, hour.curve(1));
+}
+
+fn step(end: i64, price: i64) -> RawStep {
+    RawStep {
+        end: end,
+        price: price,
+    }
+}
+
+// A raw curve of two steps, of which the first `count` count.
+fn curve_of(start: i64, count: usize, first: RawStep, second: RawStep) -> RawCurve {
+    let mut steps = [step(0, 0); 10];
+    steps[0] = first;
+    steps[1] = second;
+    RawCurve {
+        start: start,
+        count: count,
+        steps: steps,
+    }
+}
+
+// Case T's costs.
+fn costs() -> Costs {
+    let mut points = [Point { mw: 0, heat: 0 }; 11];
+    points[0] = Point {
+        mw: 10_000,
+        heat: 10_000,
+    };
+    points[1] = Point {
+        mw: 20_000,
+        heat: 9_000,
+    };
+    points[2] = Point {
+        mw: 30_000,
+        heat: 9_500,
+    };
+    Costs {
+        count: 3,
+        points: points,
+        gas: 40_000,
+        rate: 0,
+        allowance: 0,
+        om: 20_000,
+        msc: 1_000,
+        soc: 3_000,
+        fee: 50,
+    }
+}
+
+// Resource 0 is Case T's, of net seller 0; resource 1 has the default price 378402 from a pack, and is of net buyer 1.
+fn opening() -> Opening {
+    let blank = curve_of(0, 0, step(0, 0), step(0, 0));
+    let first = Resource {
+        portfolio: 0,
+        bid: curve_of(10_000, 2, step(15_000, 300_000), step(30_000, 900_000)),
+        source: Source::Costs,
+        costs: costs(),
+        pack: blank,
+    };
+    let mut list = [first; 64];
+    list[1] = Resource {
+        portfolio: 1,
+        bid: curve_of(0, 1, step(20_000, 900_000), step(0, 0)),
+        source: Source::Pack,
+        costs: costs(),
+        pack: curve_of(0, 1, step(20_000, 378_402), step(0, 0)),
+    };
+    let mut sellers = [0i64; 16];
+    sellers[0] = 1;
+    Opening {
+        month: 25,
+        portfolios: 2,
+        sellers: sellers,
+        resources: 2,
+        list: list,
+    }
+}
+
+// An interval in which both resources relieve the one constraint by half.
+fn interval(shadow: i64, lmp: i64, parameter: i64) -> Interval {
+    let mut shadows = [0i64; 32];
+    shadows[0] = shadow;
+    let mut lmps = [0i64; 64];
+    lmps[0] = 600_000;
+    lmps[1] = lmp;
+    let mut dispatch = [0i64; 64];
+    dispatch[0] = 20_000;
+    dispatch[1] = 10_000;
+    let mut available = [0i64; 64];
+    available[0] = 30_000;
+    available[1] = 10_000;
+    let mut factors = [0i64; 2048];
+    factors[0] = -500_000;
+    factors[32] = -500_000;
+    Interval {
+        constraints: 1,
+        shadow: shadows,
+        resources: 2,
+        lmp: lmps,
+        dispatch: dispatch,
+        available: available,
+        floor: [0; 64],
+        factors: factors,
+        parameter: parameter,
+    }
+}
+
+// One call, its answer printed; the hour as the call leaves it.
+fn call(hour: Hour, v: Interval) -> Hour {
+    let answer = hour.interval(v);
+    let verdicts = answer.verdicts;
+    let next = answer.hour;
+    let outcome = answer.outcome;
+    let verdict = verdicts[0];
+    print_outcome(b"interval ", outcome);
+    print_verdict(verdict);
+    print_curves(next);
+    next
+}
+
+fn main() {
+    let opened = Hour::open(opening());
+    let hour = opened.hour;
+    let outcome = opened.outcome;
+    print_outcome(b"opening ", outcome);
+    print_curves(hour);
+    let hour = call(hour, interval(500_000, 749_900, 100));
+    let hour = call(hour, interval(500_000, 600_000, 101));
+    let hour = call(hour, interval(500_000, 600_000, 100));
+    let hour = call(hour, interval(500_000, 749_900, 100));
+    let hour = call(hour, interval(0, 600_000, 100));
+    call(hour, interval(500_000, 600_000, 100));
+}
