@@ -16,7 +16,7 @@ use Rattle.number.proofs.OverLaws.{listed-length}
 use Rattle.curve.specs.Refusals.{outcomeNumber}
 use Rattle.curve.specs.Curves.{unlessRefused, curveWith, edgeSuits, priceSuits, countGood, edgesGood, pricesGood, curveRefusal, defaultRefusal, highestDefault, lowestDefault}
 use Rattle.curve.specs.Meaning.{Sound}
-use Rattle.curve.proofs.CheckLaws.{with-used, checked-sound}
+use Rattle.curve.proofs.CheckLaws.{checked-sound}
 use Rattle.curve.proofs.ChainLaws.{chain-listed}
 use Rattle.curve.proofs.RawLaws.{rawStep, rawOf, raw-listed, raw-back}
 use Rattle.curve.specs.declared.Curve.{Curve}

@@ -1,14 +1,14 @@
 -- What an interval call answers, by the way it ends. Assumes nothing.
 use mathlib.Core.List.{List, [], _∷_}
-use mathlib.Core.Path.{_≡_, refl, sym, ap, ap₂, _∙_}
-use Prim.Native.Nat.{ℕ, zero, suc, _+_, _≤_, _<_}
+use mathlib.Core.Path.{_≡_, refl, ap, ap₂, _∙_}
+use Prim.Native.Nat.{ℕ, zero, suc, _≤_, _<_}
 use native.Mathlib.Omega.{arith}
 use borrow.Author.Tests.{lt-ltb, le-ltb}
 use lib.IntN.{ℤ}
 use Rattle.number.specs.Over.{upTo}
 use Rattle.interval.specs.Intervals.{dispatchAt, lmpAt, intervalRefusal}
 use Rattle.interval.specs.declared.Interval.{Interval}
-use Rattle.path.specs.Judgements.{verdictsOf, verdictsUnless, judgedVerdicts}
+use Rattle.path.specs.Judgements.{verdictsOf, judgedVerdicts}
 use Rattle.path.specs.declared.Market.{Market}
 use Rattle.path.specs.declared.Verdict.{Verdict}
 use Rattle.engine.specs.Cuts.{cutBy, cutOf}

@@ -1,7 +1,7 @@
 -- What the limits of an interval say of its weights and components. Assumes nothing.
 use mathlib.Core.List.{List, [], _∷_, _++_}
 use mathlib.Core.Logic.{⊎-elim}
-use mathlib.Core.Path.{_≡_, refl, sym, _∙_}
+use mathlib.Core.Path.{_≡_, refl, _∙_}
 use Prim.Native.Nat.{ℕ, zero, suc, _+_, _-_, _*_, _≤_, _<_}
 use native.Mathlib.Omega.{arith}
 use lib.IntN.{ℤ, pos, natAbs, _*ℤ_}
@@ -16,7 +16,7 @@ use Rattle.interval.proofs.IntervalLaws.{InLimits}
 use Rattle.path.specs.declared.Verdict.{Verdict}
 use Rattle.path.specs.declared.Finding.{Finding}
 use Rattle.path.specs.declared.Finding.the-variants.{Competitive, NonCompetitive, NotBinding}
-use Rattle.engine.specs.Weights.{weight, noVerdict, weightsOf, sumToZ, weighed, Weighable}
+use Rattle.engine.specs.Weights.{weight, noVerdict, weightsOf, weighed, Weighable}
 use Rattle.engine.proofs.WeightLaws.{sumZ-size}
 
 -- past what it holds, an array is padded with what a read past its end gives

@@ -1,6 +1,5 @@
 -- Which number an hour is refused with as it is opened, and what opening hands back. Assumes nothing.
 use mathlib.Core.Bool.{true, false, _&&_}
-use mathlib.Core.List.{List, [], _∷_}
 use mathlib.Core.Logic.{⊎-elim}
 use mathlib.Core.Path.{_≡_, refl, ap, _∙_}
 use Prim.Native.Nat.{ℕ, zero, suc, _+_, _-_, _≤_, _<_}
@@ -9,19 +8,14 @@ use native.Mathlib.Omega.{arith}
 use borrow.Author.Tests.{leb-true}
 use lib.Dec.{leb}
 use lib.IntN.{pos}
-use lib.ListN.{length, getD}
 use Rattle.number.specs.Order.{inRange, natOf}
 use Rattle.number.proofs.OverLaws.{both, last-or-before}
 use Rattle.curve.specs.Refusals.{_then_, eachTo}
-use Rattle.curve.specs.Curves.{endOf, bidRefusal, blankStep, curveOf}
-use Rattle.curve.specs.declared.Step.{Step}
 use Rattle.engine.specs.Hours.{blankHour}
 use Rattle.engine.specs.Openings.{resourceAt, countsGood, sellersGood, ownersGood, openingRefusal, hourUnless}
-use Rattle.resource.specs.declared.Resource.{Resource}
 use Rattle.engine.specs.declared.Opening.{Opening}
-use Rattle.resource.specs.declared.Row.{Row}
 use Rattle.engine.specs.declared.Hour.{Hour}
-use Rattle.resource.specs.Resources.{blankRow, defaultBy, liesInside, resourceRefusal, rowUnless, sourceRefusal}
+use Rattle.resource.specs.Resources.{resourceRefusal}
 use Rattle.resource.proofs.ResourceLaws.{then-first}
 
 -- a loop's turn, and its early end

@@ -1,16 +1,15 @@
 -- The component as the code adds it up is C. Assumes nothing.
-use mathlib.Core.Bool.{Bool, true, false, _&&_, cond}
-use mathlib.Core.List.{List}
+use mathlib.Core.Bool.{Bool, true, false, cond}
 use mathlib.Core.Path.{_≡_, refl, sym, ap, ap₂, _∙_}
-use Prim.Native.Nat.{ℕ, zero, suc, _+_, _*_, _≤_, _<_}
+use Prim.Native.Nat.{ℕ, zero, suc, _+_, _*_, _<_}
 use native.Mathlib.Nat.{le-refl}
 use native.Mathlib.Numerals.{add-one}
 use native.Mathlib.Omega.{arith}
 use lib.Dec.{ltb}
-use lib.IntN.{ℤ, pos, negℤ, natAbs, _+ℤ_, _*ℤ_, +ℤ-idr}
-use lib.ListN.{getD, length}
-use Rattle.number.specs.Over.{listed, padded, those, sumOver}
-use Rattle.number.proofs.Kit.{Bd, bd-add, bd-mul, bd-abs, bd-le, var, lit, mul, eq-by}
+use lib.IntN.{ℤ, pos, negℤ, _+ℤ_, _*ℤ_, +ℤ-idr}
+use lib.ListN.{getD}
+use Rattle.number.specs.Over.{listed, those, sumOver}
+use Rattle.number.proofs.Kit.{Bd, bd-add, bd-le, var, lit, mul, eq-by}
 use Rattle.number.proofs.OverLaws.{both, never, padded-at, listed-at, listed-length, sum-taken, sum-skipped}
 use Rattle.interval.specs.Intervals.{cell, shadowAt, factorAt}
 use Rattle.interval.specs.declared.Interval.{Interval}
@@ -19,8 +18,6 @@ use Rattle.path.specs.Verdicts.{verdictOf, notBinding}
 use Rattle.path.specs.Judgements.{pathIn, verdictsOf}
 use Rattle.path.specs.declared.Market.{Market}
 use Rattle.path.specs.declared.Verdict.{Verdict}
-use Rattle.path.specs.declared.Finding.{Finding}
-use Rattle.path.specs.declared.Finding.the-variants.{Competitive, NonCompetitive, NotBinding}
 use Rattle.engine.specs.Cuts.{entering, component}
 use Rattle.engine.specs.Weights.{weight, noVerdict, weightsOf, sumToZ, weighed}
 

@@ -1,17 +1,15 @@
 -- Which number an interval is refused with, and what one that is not refused is like. Assumes nothing.
 use mathlib.Core.Bool.{Bool, true, false, _&&_}
-use mathlib.Core.List.{List}
-use mathlib.Core.Path.{_≡_, refl, sym}
-use Prim.Native.Nat.{ℕ, _+_, _*_, _≤_, _<_}
+use mathlib.Core.Path.{_≡_}
+use Prim.Native.Nat.{ℕ, _≤_, _<_}
 use borrow.Author.Tests.{leb-true, eqb-true}
 use lib.Dec.{leb, eqb}
-use lib.IntN.{ℤ, pos, negℤ}
+use lib.IntN.{pos, negℤ}
 use Rattle.number.specs.Order.{inRange}
-use Rattle.number.specs.Over.{allTo}
 use Rattle.number.proofs.OverLaws.{both, all-at}
 use Rattle.curve.specs.Refusals.{unless, _then_}
 use Rattle.curve.proofs.CheckLaws.{then-both, unless-holds}
-use Rattle.interval.specs.Intervals.{shadowAt, lmpAt, dispatchAt, availableAt, floorAt, factorAt, cell, sameCount, constraintsGood, allWithin, factorsGood, rangesGood, outputGood, outputsGood, intervalRefusal}
+use Rattle.interval.specs.Intervals.{shadowAt, lmpAt, dispatchAt, availableAt, floorAt, factorAt, sameCount, constraintsGood, allWithin, factorsGood, rangesGood, outputGood, outputsGood, intervalRefusal}
 use Rattle.interval.specs.declared.Interval.{Interval}
 use Rattle.interval.proofs.FactorLaws.{rowGood}
 

@@ -1,11 +1,9 @@
 -- Prices that never fall: in the segments of two curves, and after joining. Assumes nothing.
 use mathlib.Core.List.{List, [], _∷_}
 use mathlib.Core.Logic.{⊎-elim}
-use mathlib.Core.Path.{_≡_}
 use Prim.Native.Nat.{ℕ, zero, suc}
 use lib.IntN.{ℤ}
 use lib.Signed.{_≤ℤ_, ≤ℤ-refl}
-use Rattle.number.specs.Order.{minZ, maxZ}
 use Rattle.number.proofs.Kit.{≤ℤ-trans}
 use Rattle.number.proofs.OrderLaws.{min-mono, max-mono, eqZ-cases}
 use Rattle.mitigation.specs.Mitigation.{capped, segmentsN, joined, joinedAfter}

@@ -8,7 +8,7 @@ use Prim.Native.Nat.{ℕ, _+_, _<_, _≤_}
 use lib.ListN.{length}
 use Rattle.curve.specs.Curves.{priceAt, endOf, stepsOf}
 use Rattle.mitigation.specs.Mitigation.{capped, lowered, segments, mitigatedSteps, mitigated, usedSteps}
-use Rattle.curve.specs.Meaning.{Rising, Sound}
+use Rattle.curve.specs.Meaning.{Sound}
 use Rattle.mitigation.specs.Meaning.{Inside, IsMitigated}
 use Rattle.curve.specs.declared.Step.{Step}
 use Rattle.curve.specs.declared.Curve.{Curve}

@@ -1,23 +1,21 @@
 -- The walk along a bid and its default curve: what the loop of `divided` keeps, and one lemma for each way through its body.
 use mathlib.Core.Bool.{false}
 use mathlib.Core.List.{List, [], _∷_, _++_, append-assoc, append-nil}
-use mathlib.Core.Logic.{_⊎_, inl, inr, ⊎-elim}
-use mathlib.Core.Path.{_≡_, refl, ap, sym, _∙_, subst}
-use Prim.Native.Nat.{ℕ, zero, suc, _+_, _-_, _<_, _≤_, min}
+use mathlib.Core.Path.{_≡_, refl, ap, sym, _∙_}
+use Prim.Native.Nat.{ℕ, zero, suc, _+_, _-_, _<_, _≤_}
 use native.Mathlib.Omega.{arith}
 use native.Mathlib.Nat.{sub-zero}
 use native.Mathlib.Numerals.{add-one}
-use lib.IntN.{ℤ, pos}
-use lib.ListN.{length, take, drop, getD, set, replicate, length-drop, length-append, length-take, drop-of-length-le}
-use lib.Seq.{drop-cons, getD-take, set-at}
+use lib.IntN.{ℤ}
+use lib.ListN.{length, drop, getD, set, replicate, length-append, drop-of-length-le}
+use lib.Seq.{drop-cons}
 use Rattle.number.specs.Order.{eqZ}
 use Rattle.number.specs.Over.{padded}
 use Rattle.number.proofs.OverLaws.{padded-more}
-use Rattle.curve.specs.Curves.{stepTo, stepsOf, blankStep}
-use Rattle.mitigation.specs.Mitigation.{segmentsN, segments, joined, joinedAfter, usedSteps, mitigatedOf}
+use Rattle.curve.specs.Curves.{stepTo, blankStep}
+use Rattle.mitigation.specs.Mitigation.{segmentsN, segments, joined, joinedAfter, mitigatedOf}
 use Rattle.mitigation.proofs.SegmentLaws.{segments-skip, segments-default, segments-bid, joined-same, joined-other}
 use Rattle.curve.specs.declared.Step.{Step}
-use Rattle.curve.specs.declared.Curve.{Curve}
 use Rattle.mitigation.specs.declared.Mitigated.{Mitigated}
 
 -- what is left of the segments from the bid's step i and the default curve's step j on

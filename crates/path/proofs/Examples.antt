@@ -5,7 +5,7 @@ use Prim.Native.Nat.{ℕ}
 use lib.IntN.{ℤ, pos, negsuc}
 use lib.ListN.{replicate}
 use Rattle.number.specs.Over.{sumTo, listed}
-use Rattle.path.specs.declared.Finding.the-variants.{Competitive, NonCompetitive, NotBinding}
+use Rattle.path.specs.declared.Finding.the-variants.{Competitive, NonCompetitive}
 use Rattle.path.specs.Paths.{Path, at, demand, supply, share, withholdable, offer, offers, largest, top, total, mask, amountOf, sellers, named, left, isNonCompetitive}
 use Rattle.path.specs.Verdicts.{verdictOf, notBinding}
 

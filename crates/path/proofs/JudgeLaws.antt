@@ -1,20 +1,19 @@
 -- From the tally and the three largest offers to the verdict.
-use mathlib.Core.Bool.{Bool, true, false, _&&_, cond}
+use mathlib.Core.Bool.{true, false, cond}
 use mathlib.Core.List.{List, []}
 use mathlib.Core.Logic.{_⊎_, inl, inr}
-use mathlib.Core.Path.{_≡_, refl, sym, ap, ap₂, _∙_}
-use Prim.Native.Nat.{ℕ, _-_, _*_, _≤_, _<_}
+use mathlib.Core.Path.{_≡_, sym, ap, _∙_}
+use Prim.Native.Nat.{ℕ, _-_, _≤_, _<_}
 use native.Mathlib.Nat.{le-refl, le-trans, le-of-eq, eq-zero-or-pos}
 use native.Mathlib.Omega.{arith}
 use lib.Dec.{ltb, eqb}
 use lib.IntN.{ℤ, pos}
-use Rattle.number.specs.Over.{listed}
 use Rattle.number.proofs.OverLaws.{listed-at, listed-same}
 use Rattle.path.specs.declared.Finding.{Finding}
 use Rattle.path.specs.declared.Finding.the-variants as finding
 use Rattle.path.specs.declared.constraint.Tally.{Tally}
 use Rattle.path.specs.declared.constraint.Top.{Top}
-use Rattle.path.specs.Paths.{Path, binds, demand, supply, share, withholdable, offer, offers, at, top, total, mask, amountOf, sellers, named, left, isNonCompetitive}
+use Rattle.path.specs.Paths.{Path, binds, demand, supply, share, withholdable, offer, offers, at, top, total, sellers, named, left, isNonCompetitive}
 use Rattle.path.specs.Verdicts.{pathOf, tallyOf, offersOf, topOf, Sound, Held, verdictOf, notBinding}
 use Rattle.path.proofs.PathLaws.{seller-of-offer, withheld-le-supply, sellers-possible}
 use Rattle.path.proofs.TallyLaws.{withholdable-le}

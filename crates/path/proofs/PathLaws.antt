@@ -2,15 +2,13 @@
 use Prim.Native.Nat.{ℕ, zero, suc, _+_, _-_, _*_, _≤_, _<_, zero-le}
 use mathlib.Core.Bool.{Bool, true, false}
 use mathlib.Core.List.{List, [], _∷_}
-use mathlib.Core.Path.{_≡_, refl, sym, ap, _∙_}
+use mathlib.Core.Path.{_≡_, refl, sym, _∙_}
 use mathlib.Core.Logic.{_↔_}
 use native.Mathlib.Nat.{le-refl, le-trans, le-of-eq, mul-le-mul-left, add-le-add}
 use native.Mathlib.Omega.{arith}
 use lib.ListN.{length, set}
-use lib.Dec.{T, ltb, eqb}
-use lib.IntN.{ℤ, pos}
-use lib.Signed.{_<ℤ_}
-use borrow.Author.Tests.{ltb-true, ltb-false, lt-ltb, eqb-true, eq-eqb, ne-eqb}
+use lib.Dec.{ltb, eqb}
+use borrow.Author.Tests.{ltb-true, lt-ltb, eqb-true, eq-eqb, ne-eqb}
 use Rattle.number.specs.Over.{sumTo}
 use Rattle.number.proofs.OverLaws.{listed-at, listed-length, both}
 use Rattle.path.specs.Paths.{Path, binds, effect, at, demand, supply, share, withholdable, offer, offers, largest, top, sellers, left, Withheld, Absent, NetSeller, Possible, total, isNonCompetitive, NonCompetitive}

@@ -1,9 +1,9 @@
 -- The path verdict means what paper 01 says (Path verdict; 39.7.2.2), for any number of resources and portfolios.
-use mathlib.Core.Bool.{Bool, true, false, _&&_, cond}
+use mathlib.Core.Bool.{Bool, true, false, cond}
 use mathlib.Core.List.{List}
-use mathlib.Core.Logic.{_⊎_, inl, inr, ⊎-elim, _↔_}
-use mathlib.Core.Path.{_≡_, refl, sym, ap, _∙_, subst}
-use Prim.Native.Nat.{ℕ, _+_, _-_, _≤_, _<_}
+use mathlib.Core.Logic.{_⊎_, ⊎-elim, _↔_}
+use mathlib.Core.Path.{_≡_, refl, sym, ap, _∙_}
+use Prim.Native.Nat.{ℕ, _-_, _≤_, _<_}
 use native.Mathlib.Nat.{le-trans, le-of-eq}
 use native.Mathlib.Omega.{arith}
 use lib.Count.{ones}
@@ -13,7 +13,7 @@ use lib.Signed.{_≤ℤ_, _<ℤ_}
 use Rattle.number.proofs.OverLaws.{listed-at, never, both, tested}
 use Rattle.path.specs.declared.Finding.{Finding}
 use Rattle.path.specs.declared.Finding.the-variants as finding
-use Rattle.path.specs.Paths.{Path, binds, demand, supply, withholdable, offers, at, Withheld, total, amountOf, sellers, named, left, Absent, NetSeller, Possible, isNonCompetitive, NonCompetitive}
+use Rattle.path.specs.Paths.{Path, binds, demand, supply, withholdable, offers, at, Withheld, total, sellers, named, left, Absent, NetSeller, Possible, isNonCompetitive, NonCompetitive}
 use Rattle.path.specs.Verdicts.{verdictOf, findingNumber, bit}
 use Rattle.path.proofs.BitLaws.{bit-zero}
 use Rattle.number.proofs.TestLaws.{above-exactly, not-above-exactly}

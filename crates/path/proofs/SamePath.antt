@@ -6,7 +6,7 @@ use Prim.Native.Nat.{ℕ, _-_, _*_, _<_}
 use lib.Dec.{ltb, eqb}
 use Rattle.number.specs.Over.{sumTo, listed}
 use Rattle.number.proofs.OverLaws.{sum-same, listed-same}
-use Rattle.path.specs.Paths.{Path, binds, effect, demand, supply, share, withholdable, offer, offers, top, total, mask, sellers, named, left, isNonCompetitive, Withheld}
+use Rattle.path.specs.Paths.{Path, binds, effect, demand, supply, share, withholdable, offer, offers, top, total, sellers, named, left, isNonCompetitive, Withheld}
 use Rattle.path.specs.Verdicts.{verdictOf}
 
 pub record Same (d e : Path) : Type 0 where

@@ -2,17 +2,16 @@
 use mathlib.Core.Bool.{Bool, true, false, cond}
 use mathlib.Core.List.{List, []}
 use mathlib.Core.Path.{_≡_, refl, sym, ap, _∙_}
-use Prim.Native.Nat.{ℕ, zero, suc, _+_, _-_, _*_, _≤_, _<_, zero-le}
+use Prim.Native.Nat.{ℕ, suc, _+_, _-_, _*_, _≤_, _<_, zero-le}
 use native.Mathlib.Nat.{le-trans, le-of-eq, mul-le-mul-right}
 use native.Mathlib.Omega.{arith}
 use borrow.Author.Tests.{eq-eqb, ne-eqb}
 use lib.Dec.{eqb}
-use lib.IntN.{ℤ, pos, negsuc, negℤ, natAbs}
+use lib.IntN.{ℤ, pos, negsuc, natAbs}
 use lib.ListN.{getD, replicate, set}
-use lib.Signed.{ltZ}
 use Rattle.number.specs.Order.{inRange, natOf}
 use Rattle.number.specs.Over.{sumTo, listed}
-use Rattle.number.proofs.Kit.{in-lo, in-hi, le-of, lt-true, lt-false, P, N}
+use Rattle.number.proofs.Kit.{in-lo, in-hi, le-of}
 use Rattle.number.proofs.OverLaws.{listed-at, listed-same}
 use Rattle.path.specs.Paths.{Path, at, effectiveness, effect, demand, supply, share, withholdable}
 use Rattle.path.specs.Verdicts.{pathOf, tallyOf, Sound}

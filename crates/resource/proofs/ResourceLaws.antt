@@ -1,18 +1,11 @@
 -- Which number a resource is refused with, and what opening it hands back. Assumes nothing.
-use mathlib.Core.Bool.{true, false, _&&_}
+use mathlib.Core.Bool.{true, false}
 use mathlib.Core.List.{List, [], _∷_}
-use mathlib.Core.Logic.{⊎-elim}
-use mathlib.Core.Path.{_≡_, refl, ap, _∙_}
-use Prim.Native.Nat.{ℕ, zero, suc, _+_, _-_, _≤_, _<_}
-use native.Mathlib.Numerals.{add-one}
+use mathlib.Core.Path.{_≡_, refl}
+use Prim.Native.Nat.{ℕ, zero, suc, _-_, _<_}
 use native.Mathlib.Omega.{arith}
-use borrow.Author.Tests.{leb-true}
-use lib.Dec.{leb}
-use lib.IntN.{pos}
 use lib.ListN.{length, getD}
-use Rattle.number.specs.Order.{inRange, natOf}
-use Rattle.number.proofs.OverLaws.{both, last-or-before}
-use Rattle.curve.specs.Refusals.{_then_, eachTo}
+use Rattle.curve.specs.Refusals.{_then_}
 use Rattle.curve.specs.Curves.{endOf, bidRefusal, blankStep, curveOf}
 use Rattle.curve.specs.declared.Step.{Step}
 use Rattle.resource.specs.declared.Resource.{Resource}

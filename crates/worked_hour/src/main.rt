@@ -1,5 +1,5 @@
-// Runs one hour through the public calls and prints each answer: two portfolios, a default curve from costs and one from a pack,
-// a refused call in the middle, four accepted calls and a fifth. Resource 0 is paper 01's Case T, resource 1 its P9.
+// Runs hours through the public calls and prints each answer: packs for no resource, for all and for one; a refused opening; and, of the last hour, a
+// refused call in the middle, four accepted calls and a fifth. The resources are those of paper 01's Case T and P9.
 use cost::Costs;
 use cost::Point;
 use curve::Outcome;
@@ -109,24 +109,47 @@ fn costs() -> Costs {
     }
 }
 
-// Resource 0 is Case T's, of net seller 0; resource 1 has the default price 378402 from a pack, and is of net buyer 1.
-fn opening() -> Opening {
-    let blank = curve_of(0, 0, step(0, 0), step(0, 0));
-    let first = Resource {
-        portfolio: 0,
+// Case T's resource.
+fn case_t(portfolio: i64) -> Resource {
+    Resource {
+        portfolio: portfolio,
         bid: curve_of(10_000, 2, step(15_000, 300_000), step(30_000, 900_000)),
         source: Source::Costs,
         costs: costs(),
-        pack: blank,
-    };
-    let mut list = [first; 64];
-    list[1] = Resource {
-        portfolio: 1,
+        pack: curve_of(10_000, 2, step(20_000, 378_402), step(30_000, 488_402)),
+    }
+}
+
+// Case T's resource with the same default curve from a pack.
+fn case_t_packed(portfolio: i64) -> Resource {
+    let t = case_t(portfolio);
+    let bid = t.bid;
+    let costs = t.costs;
+    let pack = t.pack;
+    Resource {
+        portfolio: portfolio,
+        bid: bid,
+        source: Source::Pack,
+        costs: costs,
+        pack: pack,
+    }
+}
+
+// The resource of P9: bid 900000, default 378402 from a pack.
+fn p9(portfolio: i64) -> Resource {
+    Resource {
+        portfolio: portfolio,
         bid: curve_of(0, 1, step(20_000, 900_000), step(0, 0)),
         source: Source::Pack,
         costs: costs(),
         pack: curve_of(0, 1, step(20_000, 378_402), step(0, 0)),
-    };
+    }
+}
+
+// Two resources, the first of net seller 0 and the second of net buyer 1.
+fn opening(first: Resource, second: Resource) -> Opening {
+    let mut list = [first; 64];
+    list[1] = second;
     let mut sellers = [0i64; 16];
     sellers[0] = 1;
     Opening {
@@ -180,12 +203,27 @@ fn call(hour: Hour, v: Interval) -> Hour {
     next
 }
 
-fn main() {
-    let opened = Hour::open(opening());
+// The opened hour, its answer printed.
+fn open(o: Opening) -> Hour {
+    let opened = Hour::open(o);
     let hour = opened.hour;
     let outcome = opened.outcome;
     print_outcome(b"opening ", outcome);
     print_curves(hour);
+    hour
+}
+
+fn main() {
+    io::write_all(STDOUT_FILENO, b"no pack\n");
+    let none = open(opening(case_t(0), case_t(1)));
+    call(none, interval(500_000, 600_000, 100));
+    io::write_all(STDOUT_FILENO, b"packs for all\n");
+    let all = open(opening(case_t_packed(0), p9(1)));
+    call(all, interval(500_000, 749_900, 100));
+    io::write_all(STDOUT_FILENO, b"unknown portfolio\n");
+    open(opening(case_t(0), p9(2)));
+    io::write_all(STDOUT_FILENO, b"a pack for one\n");
+    let hour = open(opening(case_t(0), p9(1)));
     let hour = call(hour, interval(500_000, 749_900, 100));
     let hour = call(hour, interval(500_000, 600_000, 101));
     let hour = call(hour, interval(500_000, 600_000, 100));

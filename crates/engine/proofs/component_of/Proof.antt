@@ -1,8 +1,8 @@
 -- `engine::component_of` meets its contract. Assumes nothing.
-use mathlib.Core.Path.{_≡_, refl, sym, ap, _∙_, subst}
-use Prim.Native.Nat.{ℕ, _+_, _*_, _-_, _≤_, _<_}
+use mathlib.Core.Path.{_≡_, refl, sym, ap, _∙_}
+use Prim.Native.Nat.{_+_, _*_, _-_, _≤_}
 use native.Mathlib.Omega.{arith}
-use lib.IntN.{ℤ, pos, negℤ, _*ℤ_, +ℤ-idl}
+use lib.IntN.{ℤ, negℤ, _*ℤ_, +ℤ-idl}
 use mir.Syntax.{w64}
 use mir.Val.{toZ}
 use Rattle.number.proofs.Kit.{Bd, bd-abs, bd-le, bd-mul}
@@ -12,8 +12,6 @@ use Rattle.engine.specs.Weights.{sumToZ, weighed}
 use Rattle.engine.proofs.WeightLaws.{sumZ-next, sumZ-size}
 use Rattle.engine.proofs.component_of.Statement.{statement}
 use Rattle.engine.proofs.component_of.Tie as tie
-use Rattle.engine.proofs.component_of.Reads as reads
-use Rattle.engine.proofs.component_of.Lts as lts
 
 abbrev Inv-loop : tie.InvT-loop
 Inv-loop factors weights r m sum₀ c₀ sum c = (c ≤ m) × (toZ w64 sum ≡ sumToZ (λ k. cell factors (r * 32 + k) *ℤ cell weights k) c)

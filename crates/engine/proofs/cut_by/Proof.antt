@@ -11,9 +11,6 @@ use Rattle.mitigation.specs.declared.FloorPrice.the-variants.{Cut}
 use Rattle.engine.specs.Cuts.{cutBy}
 use Rattle.engine.proofs.cut_by.Statement.{statement}
 use Rattle.engine.proofs.cut_by.Tie as tie
-use Rattle.engine.proofs.cut_by.Reads as reads
-use Rattle.engine.proofs.cut_by.Lts as lts
-use Rattle.number.proofs.ceil_by.Reads as ceil-by-reads
 
 -- the code's expressions
 abbrev scaled : tie.Start → Meant

@@ -2,9 +2,6 @@
 use borrow.Author.Needs.{needs}
 use Rattle.engine.proofs.cut_row.Statement.{statement}
 use Rattle.engine.proofs.cut_row.Tie as tie
-use Rattle.engine.proofs.cut_row.Reads as reads
-use Rattle.engine.proofs.cut_row.Lts as lts
-use Rattle.mitigation.proofs.FloorPrice.lowered.Reads as lowered-reads
 
 lowered-requires : tie.Need-lowered-requires
 lowered-requires c κs = search needs

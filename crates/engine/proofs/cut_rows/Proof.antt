@@ -1,13 +1,11 @@
 -- `engine::cut_rows` meets its contract. Assumes nothing.
 use borrow.Author.Needs.{needs}
-use mathlib.Core.Path.{_≡_, refl, sym, ap, _∙_}
-use Prim.Native.Nat.{ℕ, _-_, _≤_, _<_}
+use mathlib.Core.Path.{_≡_, refl, _∙_}
+use Prim.Native.Nat.{_-_, _≤_, _<_}
 use native.Mathlib.Omega.{arith}
-use native.Mathlib.Numerals.{add-one}
-use lib.ListN.{length, length-map}
+use lib.ListN.{length}
 use Rattle.number.specs.Over.{upTo}
 use Rattle.number.proofs.Kit.{came}
-use Rattle.number.proofs.OverLaws.{upTo-at, upTo-step}
 use Rattle.interval.proofs.IntervalLaws.{InLimits, in-limits}
 use Rattle.number.proofs.RangeLaws.{abs-range, abs-in}
 use Rattle.interval.specs.Intervals.{lmpAt, dispatchAt}

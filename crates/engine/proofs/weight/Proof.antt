@@ -4,8 +4,6 @@ use mir.ValLaws.{toZ-ofZ}
 use borrow.Author.Needs.{needs}
 use Rattle.engine.proofs.weight.Statement.{statement}
 use Rattle.engine.proofs.weight.Tie as tie
-use Rattle.engine.proofs.weight.Reads as reads
-use Rattle.engine.proofs.weight.Lts as lts
 
 enum-told : tie.Need-enum-told
 enum-told c = search needs

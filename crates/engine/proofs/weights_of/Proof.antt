@@ -1,6 +1,6 @@
 -- `engine::weights_of` meets its contract. Assumes nothing.
-use mathlib.Core.Path.{_≡_, refl, sym, ap, _∙_}
-use Prim.Native.Nat.{ℕ, _-_, _≤_, _<_}
+use mathlib.Core.Path.{_≡_, refl}
+use Prim.Native.Nat.{_-_, _≤_}
 use native.Mathlib.Omega.{arith}
 use native.Mathlib.Numerals.{add-one}
 use lib.IntN.{pos}
@@ -13,9 +13,6 @@ use Rattle.engine.specs.Weights.{weight, noVerdict, weightsOf}
 use borrow.Author.Needs.{needs}
 use Rattle.engine.proofs.weights_of.Statement.{statement}
 use Rattle.engine.proofs.weights_of.Tie as tie
-use Rattle.engine.proofs.weights_of.Reads as reads
-use Rattle.engine.proofs.weights_of.Lts as lts
-use Rattle.engine.proofs.weight.Reads as weight-reads
 
 abbrev Inv-loop : tie.InvT-loop
 Inv-loop shadow m verdicts weights₀ c₀ weights c = (c ≤ m) × (weights ≡ weightsOf shadow verdicts c)

@@ -1,7 +1,7 @@
 -- `interval::all_within` meets its contract. Assumes nothing.
-use mathlib.Core.Bool.{true, false}
+use mathlib.Core.Bool.{true}
 use mathlib.Core.Path.{_≡_, refl, sym, _∙_}
-use Prim.Native.Nat.{ℕ, _-_, _≤_, _<_}
+use Prim.Native.Nat.{_-_, _≤_}
 use native.Mathlib.Omega.{arith}
 use borrow.Author.Tests.{not-true, not-false}
 use mir.Syntax.{w64}
@@ -15,9 +15,6 @@ use Rattle.interval.specs.Intervals.{cell, allWithin}
 use borrow.Author.Needs.{needs}
 use Rattle.interval.proofs.all_within.Statement.{statement}
 use Rattle.interval.proofs.all_within.Tie as tie
-use Rattle.interval.proofs.all_within.Reads as reads
-use Rattle.interval.proofs.all_within.Lts as lts
-use Rattle.number.proofs.within.Reads as within-reads
 
 abbrev Inv-loop : tie.InvT-loop
 Inv-loop numbers n lo hi i₀ i = (i ≤ n) × (allTo (λ k. inRange (toZ w64 lo) (toZ w64 hi) (cell numbers k)) i ≡ true)

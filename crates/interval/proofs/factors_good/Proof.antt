@@ -1,22 +1,18 @@
 -- `interval::factors_good` meets its contract. Assumes nothing.
-use mathlib.Core.Bool.{true, false}
+use mathlib.Core.Bool.{true}
 use mathlib.Core.Path.{_≡_, refl, sym, _∙_}
-use Prim.Native.Nat.{ℕ, _-_, _*_, _≤_, _<_}
+use Prim.Native.Nat.{_-_, _*_, _≤_}
 use native.Mathlib.Omega.{arith}
 use borrow.Author.Tests.{not-true, not-false}
 use lib.ListN.{length, length-take, length-drop, take, drop}
 use lib.Seq.{take-all}
 use Rattle.number.specs.Over.{allTo}
-use Rattle.number.proofs.Kit.{came}
 use Rattle.number.proofs.OverLaws.{all-next, all-fails}
-use Rattle.interval.specs.Intervals.{cell, factorsGood}
+use Rattle.interval.specs.Intervals.{factorsGood}
 use Rattle.interval.proofs.FactorLaws.{rowGood, row-good}
 use borrow.Author.Needs.{needs}
 use Rattle.interval.proofs.factors_good.Statement.{statement}
 use Rattle.interval.proofs.factors_good.Tie as tie
-use Rattle.interval.proofs.factors_good.Reads as reads
-use Rattle.interval.proofs.factors_good.Lts as lts
-use Rattle.interval.proofs.all_within.Reads as all-within-reads
 
 abbrev Inv-loop : tie.InvT-loop
 Inv-loop factors n m r₀ r = (r ≤ n) × (allTo (λ k. rowGood factors k m) r ≡ true)

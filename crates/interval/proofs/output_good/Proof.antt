@@ -9,9 +9,6 @@ use Rattle.number.specs.Order.{inRange}
 use borrow.Author.Needs.{needs}
 use Rattle.interval.proofs.output_good.Statement.{statement}
 use Rattle.interval.proofs.output_good.Tie as tie
-use Rattle.interval.proofs.output_good.Reads as reads
-use Rattle.interval.proofs.output_good.Lts as lts
-use Rattle.number.proofs.within.Reads as within-reads
 
 -- each test's result, at the numbers themselves
 available-is : (c : tie.After-within) → c .within .result ≡ inRange (pos 0) (pos 1000000) (c .before .args .available)

@@ -1,7 +1,7 @@
 -- `interval::outputs_good` meets its contract. Assumes nothing.
-use mathlib.Core.Bool.{true, false}
+use mathlib.Core.Bool.{true}
 use mathlib.Core.Path.{_≡_, refl, sym, _∙_}
-use Prim.Native.Nat.{ℕ, _-_, _≤_, _<_}
+use Prim.Native.Nat.{_-_, _≤_}
 use native.Mathlib.Omega.{arith}
 use borrow.Author.Tests.{not-true, not-false}
 use Rattle.number.specs.Over.{allTo}
@@ -11,9 +11,6 @@ use Rattle.interval.specs.Intervals.{cell, outputGood, outputsGood}
 use borrow.Author.Needs.{needs}
 use Rattle.interval.proofs.outputs_good.Statement.{statement}
 use Rattle.interval.proofs.outputs_good.Tie as tie
-use Rattle.interval.proofs.outputs_good.Reads as reads
-use Rattle.interval.proofs.outputs_good.Lts as lts
-use Rattle.interval.proofs.output_good.Reads as output-good-reads
 
 abbrev Inv-loop : tie.InvT-loop
 Inv-loop available floor dispatch n r₀ r = (r ≤ n) × (allTo (λ k. outputGood (cell available k) (cell floor k) (cell dispatch k)) r ≡ true)

@@ -10,11 +10,6 @@ use Rattle.interval.specs.Intervals.{allWithin}
 use borrow.Author.Needs.{needs}
 use Rattle.interval.proofs.ranges_good.Statement.{statement}
 use Rattle.interval.proofs.ranges_good.Tie as tie
-use Rattle.interval.proofs.ranges_good.Reads as reads
-use Rattle.interval.proofs.ranges_good.Lts as lts
-use Rattle.interval.proofs.all_within.Reads as all-within-reads
-use Rattle.interval.proofs.factors_good.Reads as factors-good-reads
-use Rattle.number.proofs.within.Reads as within-reads
 
 -- each test's result
 shadow-off : (c : tie.Then1) → allWithin (pos 0) (pos 100000000) (c .before .before .args .shadow .now) (c .before .before .args .m) ≡ false

@@ -6,10 +6,6 @@ use Rattle.number.proofs.Kit.{came}
 use borrow.Author.Needs.{needs}
 use Rattle.mitigation.proofs.cap.Statement.{statement}
 use Rattle.mitigation.proofs.cap.Tie as tie
-use Rattle.mitigation.proofs.cap.Reads as reads
-use Rattle.mitigation.proofs.cap.Lts as lts
-use Rattle.number.proofs.max.Reads as max-reads
-use Rattle.number.proofs.min.Reads as min-reads
 
 enum-told : tie.Need-enum-told
 enum-told c = search needs

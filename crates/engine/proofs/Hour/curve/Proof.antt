@@ -12,11 +12,6 @@ use Rattle.mitigation.specs.declared.FloorPrice.the-variants.{Uncut}
 use Rattle.engine.specs.Hours.{noRow, rowCurve, curveIn}
 use Rattle.engine.proofs.Hour.curve.Statement.{statement}
 use Rattle.engine.proofs.Hour.curve.Tie as tie
-use Rattle.engine.proofs.Hour.curve.Reads as reads
-use Rattle.engine.proofs.Hour.curve.Lts as lts
-use Rattle.curve.proofs.Curve.blank.Reads as blank-reads
-use Rattle.engine.proofs.row_curve.Reads as row-curve-reads
-use Rattle.mitigation.proofs.Mitigated.of.Reads as of-reads
 
 -- what the type says: the array has 64 rows
 rows-length : (c : tie.Start) → length (c .args .t1 .rows) ≡ 64

@@ -1,7 +1,6 @@
 -- `engine::Hour::interval` meets its contract. Assumes nothing.
 use mathlib.Core.Path.{_≡_, refl, sym, ap, _∙_}
 use Prim.Native.Nat.{ℕ, _<_}
-use native.Mathlib.Omega.{arith}
 use lib.Dec.{lit<}
 use Rattle.curve.specs.Refusals.{outcomeNumber}
 use Rattle.curve.proofs.RefusalLaws.{refused-number}
@@ -15,11 +14,6 @@ use Rattle.engine.proofs.AnswerLaws.{full, open-for, refused-hour, take
 use borrow.Author.Needs.{needs}
 use Rattle.engine.proofs.Hour.interval.Statement.{statement}
 use Rattle.engine.proofs.Hour.interval.Tie as tie
-use Rattle.engine.proofs.Hour.interval.Reads as reads
-use Rattle.engine.proofs.Hour.interval.Lts as lts
-use Rattle.engine.proofs.cut_rows.Reads as cut-rows-reads
-use Rattle.path.proofs.Market.judged.Reads as judged-reads
-use Rattle.path.proofs.Verdict.not_binding.Reads as not-binding-reads
 
 -- none of 13 to 16 applies where the outcome is accepted
 passed : (c : tie.After-enum-told) → intervalRefusal (c .before .before .before .before .before .before .args .self .market .resources) (c .before .before .before .before .before .before .args .v) ≡ 0

@@ -1,5 +1,5 @@
 -- `interval::Interval::checked` meets its contract. Assumes nothing.
-use mathlib.Core.Bool.{true, false}
+use mathlib.Core.Bool.{true}
 use mathlib.Core.Path.{_≡_, sym, _∙_}
 use borrow.Author.Tests.{not-true, not-false, eq-eqb, ne-eqb, le-leb, lt-leb}
 use Rattle.number.proofs.Kit.{came}
@@ -8,10 +8,6 @@ use Rattle.interval.proofs.IntervalLaws.{inRanges, refused-count, refus
 use borrow.Author.Needs.{needs}
 use Rattle.interval.proofs.Interval.checked.Statement.{statement}
 use Rattle.interval.proofs.Interval.checked.Tie as tie
-use Rattle.interval.proofs.Interval.checked.Reads as reads
-use Rattle.interval.proofs.Interval.checked.Lts as lts
-use Rattle.interval.proofs.outputs_good.Reads as outputs-good-reads
-use Rattle.interval.proofs.ranges_good.Reads as ranges-good-reads
 
 -- the counts' tests
 same : (c : tie.Else2) → sameCount (c .before .before .args .resources) (c .before .before .args .t1) ≡ true

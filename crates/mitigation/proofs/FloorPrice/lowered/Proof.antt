@@ -5,9 +5,6 @@ use Rattle.mitigation.specs.declared.FloorPrice.the-variants.{Cut}
 use borrow.Author.Needs.{needs}
 use Rattle.mitigation.proofs.FloorPrice.lowered.Statement.{statement}
 use Rattle.mitigation.proofs.FloorPrice.lowered.Tie as tie
-use Rattle.mitigation.proofs.FloorPrice.lowered.Reads as reads
-use Rattle.mitigation.proofs.FloorPrice.lowered.Lts as lts
-use Rattle.number.proofs.min.Reads as min-reads
 
 enum-told : tie.Need-enum-told
 enum-told c = search needs

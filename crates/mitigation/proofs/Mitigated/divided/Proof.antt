@@ -1,8 +1,7 @@
 -- `mitigation::Mitigated::divided` meets its contract. Assumes nothing.
-use mathlib.Core.Path.{_≡_, refl, sym, ap, _∙_}
-use Prim.Native.Nat.{ℕ, _+_, _-_, _<_, _≤_}
+use mathlib.Core.Path.{_∙_}
+use Prim.Native.Nat.{_+_, _-_, _<_}
 use native.Mathlib.Omega.{arith}
-use mir.Syntax.{w64}
 use Rattle.number.proofs.Kit.{came}
 use Rattle.number.proofs.OverLaws.{taken-at}
 use lib.ListN.{length, getD}

@@ -5,10 +5,6 @@ use Rattle.mitigation.specs.Mitigation.{mitigated}
 use borrow.Author.Needs.{needs}
 use Rattle.mitigation.proofs.Mitigated.of.Statement.{statement}
 use Rattle.mitigation.proofs.Mitigated.of.Tie as tie
-use Rattle.mitigation.proofs.Mitigated.of.Reads as reads
-use Rattle.mitigation.proofs.Mitigated.of.Lts as lts
-use Rattle.mitigation.proofs.Mitigated.divided.Reads as divided-reads
-use Rattle.mitigation.proofs.Mitigated.merged.Reads as merged-reads
 
 divided-requires : tie.Need-divided-requires
 divided-requires c κs = search needs

@@ -1,20 +1,17 @@
 -- `mitigation::Mitigated::price_at` meets its contract. Assumes nothing.
 use mathlib.Core.Path.{_≡_, refl, sym, _∙_}
-use Prim.Native.Nat.{ℕ, _-_, _<_, _≤_}
+use Prim.Native.Nat.{_-_, _<_, _≤_}
 use native.Mathlib.Omega.{arith}
 use borrow.Author.Tests.{lt-ltb, le-ltb}
 use lib.ListN.{length, getD, drop}
 use Rattle.number.proofs.Kit.{came}
 use Rattle.number.proofs.OverLaws.{taken-at}
-use Rattle.curve.specs.Curves.{stepsOf, blankStep, quoteFrom, quote}
+use Rattle.curve.specs.Curves.{blankStep, quoteFrom}
 use Rattle.mitigation.specs.Mitigation.{usedSteps}
 use Rattle.curve.proofs.QuoteLaws.{quote-here, quote-on, quote-end}
 use borrow.Author.Needs.{needs}
 use Rattle.mitigation.proofs.Mitigated.price_at.Statement.{statement}
 use Rattle.mitigation.proofs.Mitigated.price_at.Tie as tie
-use Rattle.mitigation.proofs.Mitigated.price_at.Reads as reads
-use Rattle.mitigation.proofs.Mitigated.price_at.Lts as lts
-use Rattle.mitigation.proofs.Mitigated.used.Reads as used-reads
 
 abbrev Inv-loop : tie.InvT-loop
 Inv-loop q self n start i₀ i = (i ≤ n) × (quoteFrom (drop i (usedSteps self)) q ≡ quoteFrom (usedSteps self) q)

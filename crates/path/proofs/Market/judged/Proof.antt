@@ -1,6 +1,6 @@
 -- `path::Market::judged` meets its contract. Assumes nothing.
-use mathlib.Core.Path.{_≡_, refl, sym, ap, _∙_}
-use Prim.Native.Nat.{ℕ, _-_, _≤_, _<_}
+use mathlib.Core.Path.{_≡_, sym, ap, _∙_}
+use Prim.Native.Nat.{_-_, _≤_, _<_}
 use native.Mathlib.Omega.{arith}
 use native.Mathlib.Numerals.{add-one}
 use Rattle.number.specs.Over.{listed, padded}
@@ -16,11 +16,6 @@ use Rattle.path.specs.Judgements.{pathIn, verdictsOf, judgedVerdicts}
 use borrow.Author.Needs.{needs}
 use Rattle.path.proofs.Market.judged.Statement.{statement}
 use Rattle.path.proofs.Market.judged.Tie as tie
-use Rattle.path.proofs.Market.judged.Reads as reads
-use Rattle.path.proofs.Market.judged.Lts as lts
-use Rattle.interval.proofs.Interval.checked.Reads as checked-reads
-use Rattle.path.proofs.Verdict.not_binding.Reads as not-binding-reads
-use Rattle.path.proofs.constraint.judge.Reads as judge-reads
 
 abbrev Inv-loop : tie.InvT-loop
 Inv-loop self v verdicts₀ n outcome m c₀ verdicts c = (c ≤ m) × (verdicts ≡ padded 32 notBinding (listed (λ k. verdictOf (pathIn self v k)) c))

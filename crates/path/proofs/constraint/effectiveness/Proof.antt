@@ -1,22 +1,17 @@
 -- `path::constraint::effectiveness` meets its contract. Assumes nothing.
 use mathlib.Core.Bool.{true, false}
-use mathlib.Core.Path.{_≡_, refl, sym, ap, _∙_}
+use mathlib.Core.Path.{_≡_, refl, sym, ap}
 use Prim.Native.Nat.{suc, _≤_, zero-le}
 use native.Mathlib.Nat.{le-refl}
 use native.Mathlib.Omega.{arith}
-use lib.Dec.{T}
 use lib.IntN.{ℤ, pos, negsuc, natAbs, _-ℤ_}
-use lib.Signed.{ltZ, nonNeg}
-use mir.Syntax.{w64}
-use mir.Val.{Fits}
+use lib.Signed.{ltZ}
 use Rattle.number.proofs.Kit.{came, bd-abs, lt-true}
 use Rattle.number.proofs.Meant.{Meant, fits, arg, const, kept, _⊖_}
 use Rattle.number.proofs.OverLaws.{never}
 use Rattle.path.specs.Paths as Paths
 use Rattle.path.proofs.constraint.effectiveness.Statement.{statement}
 use Rattle.path.proofs.constraint.effectiveness.Tie as tie
-use Rattle.path.proofs.constraint.effectiveness.Reads as reads
-use Rattle.path.proofs.constraint.effectiveness.Lts as lts
 
 -- minus a number below 0, and what is not below 0
 minus : (s : ℤ) → ltZ s (pos 0) ≡ true → pos 0 -ℤ s ≡ pos (Paths.effectiveness s)

@@ -1,21 +1,11 @@
 -- `path::constraint::judge` meets its contract. Assumes nothing.
-use mathlib.Core.Bool.{true, false}
-use mathlib.Core.Path.{_≡_, _∙_}
+use mathlib.Core.Path.{_∙_}
 use borrow.Author.Needs.{needs}
-use lib.IntN.{pos}
-use lib.Signed.{ltZ}
 use Rattle.number.proofs.Kit.{came}
 use Rattle.number.proofs.TestLaws.{above, not-above}
 use Rattle.path.proofs.JudgeLaws.{not-bound, offers-held, total-fits, judgement}
 use Rattle.path.proofs.constraint.judge.Statement.{statement}
 use Rattle.path.proofs.constraint.judge.Tie as tie
-use Rattle.path.proofs.constraint.judge.Reads as reads
-use Rattle.path.proofs.constraint.judge.Lts as lts
-use Rattle.path.proofs.Verdict.not_binding.Reads as not-binding-reads
-use Rattle.path.proofs.constraint.found.Reads as found-reads
-use Rattle.path.proofs.constraint.offers_of.Reads as offers-of-reads
-use Rattle.path.proofs.constraint.tally_of.Reads as tally-of-reads
-use Rattle.path.proofs.constraint.top_of.Reads as top-of-reads
 
 not-binding-requires : tie.Need-not-binding-requires
 not-binding-requires c κs = search needs

@@ -3,13 +3,12 @@ use mathlib.Core.Bool.{cond}
 use mathlib.Core.List.{List}
 use mathlib.Core.Logic.{⊎-elim}
 use mathlib.Core.Path.{_≡_, refl, ap₂, _∙_}
-use Prim.Native.Nat.{ℕ, suc, _≤_, _<_, _-_, _+_}
+use Prim.Native.Nat.{ℕ, _≤_, _<_, _-_, _+_}
 use native.Mathlib.Numerals.{add-one}
 use native.Mathlib.Omega.{arith}
-use borrow.Author.Needs.{needs}
 use borrow.Author.Tests.{eq-eqb, ne-eqb}
 use lib.Dec.{eqb}
-use lib.ListN.{length, set}
+use lib.ListN.{set}
 use Rattle.number.specs.Over.{listed, padded}
 use Rattle.number.proofs.OverLaws.{padded-next}
 use Rattle.path.specs.Paths.{at}
@@ -17,8 +16,6 @@ use Rattle.path.specs.Verdicts.{offersOf}
 use Rattle.number.proofs.ListedLaws.{padded-kept, padded-full}
 use Rattle.path.proofs.constraint.offers_of.Statement.{statement}
 use Rattle.path.proofs.constraint.offers_of.Tie as tie
-use Rattle.path.proofs.constraint.offers_of.Reads as reads
-use Rattle.path.proofs.constraint.offers_of.Lts as lts
 
 -- what portfolio p offers
 abbrev offered : List ℕ → List ℕ → ℕ → ℕ

@@ -1,6 +1,6 @@
 -- `path::constraint::top_of` meets its contract. What is taken and what is still to be taken of k sellers are together what was to be taken of three. Assumes nothing.
 use mathlib.Core.List.{List, []}
-use mathlib.Core.Path.{_≡_, refl, sym, ap, _∙_}
+use mathlib.Core.Path.{_≡_, refl, sym, _∙_}
 use Prim.Native.Nat.{ℕ, _≤_, _<_, _+_, _^_}
 use native.Mathlib.Omega.{arith}
 use lib.ListN.{replicate}
@@ -10,9 +10,6 @@ use Rattle.path.specs.Verdicts.{topOf}
 use Rattle.path.proofs.TopLaws.{stored, stored-all, total-taken, mask-taken, stored-taken, stopped, total-bound, mask-bound}
 use Rattle.path.proofs.constraint.top_of.Statement.{statement}
 use Rattle.path.proofs.constraint.top_of.Tie as tie
-use Rattle.path.proofs.constraint.top_of.Reads as reads
-use Rattle.path.proofs.constraint.top_of.Lts as lts
-use Rattle.path.proofs.constraint.largest_of.Reads as largest-of-reads
 
 -- t, m and v hold the sellers of w₀ but the k that are still to be taken of w
 record Held-so-far (w₀ w : List ℕ) (t m : ℕ) (v : List ℕ) (k : ℕ) : Type 0 where
