@@ -1,0 +1,38 @@
+-- What specs/Pages prints is what the engine holds: an engine's verdict is shown as it is, a quantity of 63 bits too, and each resource by its present curve. Assumes nothing.
+use Prim.Native.Nat.{ℕ, _≤_, _<_}
+use mathlib.Core.Path.{_≡_, refl, sym, ap, _∙_}
+use mathlib.Core.Bool.{Bool, true, false, cond}
+use mathlib.Core.List.{List, [], map}
+use native.Mathlib.Omega.{arith}
+use lib.ListN.{length, take, getD, length-map, List·getD-map}
+use Rattle.number.specs.Over.{listed}
+use Rattle.number.proofs.OverLaws.{taken-at}
+use Rattle.number.proofs.ListedLaws.{listed-is}
+use Rattle.mitigation.specs.Mitigation.{usedSteps}
+use Rattle.path.specs.Paths.{Path, binds, isNonCompetitive}
+use Rattle.path.specs.Verdicts.{verdictOf}
+use Rattle.engine.specs.Hours.{noRow, curveIn}
+use Rattle.engine.specs.declared.Hour.{Hour}
+use Rattle.text.specs.Numbers.{Row}
+use Rattle.page.specs.Pages.{printable, shown, stepRow, curveRows}
+
+-- a quantity of 63 bits is printed as it is
+pub same-quantity : (n : ℕ) → n ≤ 9223372036854775807 → printable n ≡ n
+same-quantity n h = omega arith
+
+-- a verdict of the engine is shown as it is
+pub same-verdict : (d : Path) → shown (verdictOf d) ≡ verdictOf d
+unfolding shown verdictOf
+same-verdict d = go (binds d) (isNonCompetitive d) refl refl
+  where
+    go : (b n : Bool) → binds d ≡ b → isNonCompetitive d ≡ n → shown (verdictOf d) ≡ verdictOf d
+    go true true e f = rw (e, f)
+    go true false e f = rw (e, f)
+    go false n e f = rw e
+
+-- the curves of a page are the present curves of the hour's resources, in order
+pub same-curves : (h : Hour) (n : ℕ) → map curveRows (take n (h .rows)) ≡ listed (λ r. map stepRow (usedSteps (curveIn h r))) (length (take n (h .rows)))
+unfolding curveIn
+same-curves h n =
+    listed-is (curveRows noRow) (map curveRows (take n (h .rows))) (λ r. map stepRow (usedSteps (curveIn h r))) (length (take n (h .rows))) (length-map (take n (h .rows)) curveRows)
+    (λ q l. List·getD-map curveRows (take n (h .rows)) q noRow ∙ ap curveRows (taken-at n (h .rows) q noRow l))

@@ -1,0 +1,105 @@
+-- `page::put_verdict` meets its contract. Assumes nothing.
+use Prim.Native.Nat.{ℕ, _≤_}
+use mathlib.Core.Path.{_≡_, ap, _∙_}
+use mathlib.Core.List.{List, _∷_}
+use native.Mathlib.Omega.{arith}
+use lib.ListN.{length}
+use lib.IntN.{pos}
+use Rattle.number.proofs.Kit.{came}
+use Rattle.path.specs.Verdicts.{findingNumber}
+use Rattle.text.specs.Pages.{lineText}
+use Rattle.text.specs.Offsets.{printed, printedTo}
+use Rattle.page.specs.Pages.{printable, verdictRow}
+use Rattle.page.proofs.PageLaws.{line-few, put-to, put-full, small-printable, finding-small}
+use borrow.Author.Needs.{needs}
+use Rattle.page.proofs.put_verdict.Statement.{statement}
+use Rattle.page.proofs.put_verdict.Tie as tie
+
+-- the line, at the numbers themselves
+abbrev text : (c : tie.After-print-line) → List ℕ
+text c = lineText (pos (printable (c .before .before .before .before .before .before .before .before .before .args .i)) ∷ pos (c .before .before .before .before .before .before .before .before .before .args .c) ∷ verdictRow (c .before .before .before .before .before .before .before .before .before .args .v))
+
+few : (c : tie.After-print-line) → length (text c) ≤ 105
+few c = line-few (pos (printable (c .before .before .before .before .before .before .before .before .before .args .i)) ∷ pos (c .before .before .before .before .before .before .before .before .before .args .c) ∷ verdictRow (c .before .before .before .before .before .before .before .before .before .args .v))
+
+put : (c : tie.After-print-line) → (c .print-line .last .0 ≡ printed (c .before .before .before .before .before .before .before .before .before .args .out .now) (c .before .before .before .before .before .before .before .before .before .args .at) (text c)) × (c .print-line .result ≡ printedTo (c .before .before .before .before .before .before .before .before .before .args .out .now) (c .before .before .before .before .before .before .before .before .before .args .at) (text c))
+put c =
+    let p5 = c .before .before in
+    let p4 = p5 .before in
+    let p3 = p4 .before in
+    let n = p3 .before in
+    let p2 = n .before in
+    let p1 = p2 .before in
+    let s = p1 .before .before in
+    let fa = came (p1 .printable .result) (p1 .printable .ok) ∙ p1 .printable .ensures in
+    let fb = came (p2 .printable2 .result) (p2 .printable2 .ok) ∙ p2 .printable2 .ensures ∙ ap pos (small-printable (s .args .c) (omega (arith, s .pre .1))) in
+    let fc = came (p3 .printable3 .result) (p3 .printable3 .ok) ∙ p3 .printable3 .ensures ∙ ap (λ (k : ℕ). pos (printable k)) (n .number .ensures) ∙ ap pos (small-printable (findingNumber (s .args .v .finding)) (finding-small (s .args .v .finding))) in
+    let fd = came (p4 .printable4 .result) (p4 .printable4 .ok) ∙ p4 .printable4 .ensures in
+    let fe = came (p5 .printable5 .result) (p5 .printable5 .ok) ∙ p5 .printable5 .ensures in
+    (simp (fa, fb, fc, fd, fe) at (c .print-line .ensures .0), simp (fa, fb, fc, fd, fe) at (c .print-line .ensures .1))
+
+printable-requires : tie.Need-printable-requires
+printable-requires c κs = search needs
+
+printable-requires-2 : tie.Need-printable-requires-2
+printable-requires-2 c κs = search needs
+
+number-requires : tie.Need-number-requires
+number-requires c κs = search needs
+
+printable-requires-3 : tie.Need-printable-requires-3
+printable-requires-3 c κs = search needs
+
+printable-requires-4 : tie.Need-printable-requires-4
+printable-requires-4 c κs = search needs
+
+printable-requires-5 : tie.Need-printable-requires-5
+printable-requires-5 c κs = search needs
+
+print-line-requires : tie.Need-print-line-requires
+print-line-requires c κs = search needs
+
+enum-known-next : tie.Need-enum-known-next
+enum-known-next c = search needs
+
+enum-told : tie.Need-enum-told
+enum-told c = search needs
+
+same-length : tie.Need-same-length
+same-length c = search needs
+
+returns : tie.Need-returns
+returns c =
+    let p = c .before .before .before .before .before in
+    let s = p .before .before .before .before .before .before .before .before .before in
+    let n = few p in
+    let r = put-to (s .args .out .now) (s .args .at) (text p) (p .print-line .last .0) (p .print-line .result) (omega (arith, s .pre .0)) (put p .0) (put p .1) (c .before .next .given .0 .0) (c .before .next .given .1) in
+    record { buffer = r .0; next = r .1; few = omega (arith, r .1) }
+
+same-length-2 : tie.Need-same-length-2
+same-length-2 c = search needs
+
+returns-2 : tie.Need-returns-2
+returns-2 c =
+    let p = c .before .before .before .before in
+    let s = p .before .before .before .before .before .before .before .before .before in
+    let n = few p in
+    put-full (s .args .out .now) (s .args .at) (text p) (p .print-line .last .0) (p .print-line .result) (omega (arith, s .pre .0)) (put p .0) (put p .1) (c .enum-told .given .1)
+
+pub put-verdict-spec : {M : Type 1} → statement M
+put-verdict-spec =
+    tie.close
+    (tie.spec
+    printable-requires
+    printable-requires-2
+    number-requires
+    printable-requires-3
+    printable-requires-4
+    printable-requires-5
+    print-line-requires
+    enum-known-next
+    enum-told
+    same-length
+    returns
+    same-length-2
+    returns-2)

@@ -1,0 +1,122 @@
+-- Paper 01, Text: what an accepted interval prints, and when it is put into a lent buffer.
+use Prim.Native.Nat.{ℕ, _+_, _≤_, min}
+use mathlib.Core.Path.{_≡_}
+use mathlib.Core.List.{List, [], _∷_, _++_, map}
+use mathlib.Core.Bool.{Bool, cond}
+use lib.ListN.{length, take, getD}
+use lib.Seq.{sets}
+use lib.Dec.{leb}
+use lib.IntN.{pos}
+use Rattle.number.specs.Over.{those}
+use Rattle.curve.specs.declared.Step.{Step}
+use Rattle.mitigation.specs.Mitigation.{usedSteps}
+use Rattle.path.specs.Verdicts.{findingNumber, notBinding, isNamed}
+use Rattle.path.specs.declared.Finding.{Finding}
+use Rattle.path.specs.declared.Finding.the-variants.{Competitive, NonCompetitive, NotBinding}
+use Rattle.path.specs.declared.Verdict.{Verdict}
+use Rattle.engine.specs.Hours.{rowCurve}
+use Rattle.resource.specs.declared.Row as engine
+use Rattle.engine.specs.declared.Hour.{Hour}
+use Rattle.text.specs.Numbers.{Row, bytes}
+use Rattle.text.specs.Pages.{tableText}
+use Rattle.text.specs.declared.pages.Printed.{Printed}
+use Rattle.text.specs.declared.pages.Printed.the-variants.{To, Full}
+
+-- a quantity as it is printed: one past 63 bits, which the paper's limits rule out, as the largest number of 63 bits
+abbrev pub printable : ℕ → ℕ
+printable n = min n 9223372036854775807
+
+-- ---- "interval constraint verdict demand left"
+-- "2 not binding (then 0 0 and no sellers)"
+abbrev pub unlessNotBinding : Finding → Verdict → Verdict
+unlessNotBinding Competitive v = v
+unlessNotBinding NonCompetitive v = v
+unlessNotBinding NotBinding v = notBinding
+
+-- a verdict as it is printed
+unfoldable pub shown : Verdict → Verdict
+shown v = unlessNotBinding (v .finding) v
+
+abbrev pub verdictRow : Verdict → Row
+verdictRow v = pos (findingNumber (v .finding)) ∷ pos (printable (v .demand)) ∷ pos (printable (v .left)) ∷ []
+
+-- the verdict on a constraint
+abbrev pub verdictRows : Verdict → List Row
+verdictRows v = verdictRow (shown v) ∷ []
+
+-- ---- "interval constraint portfolio withheld"
+-- portfolio p and what it withholds
+abbrev pub sellerRow : Verdict → ℕ → Row
+sellerRow v p = pos p ∷ pos (printable (getD (v .withheld) p 0)) ∷ []
+
+-- the sellers that a verdict names: paper 01 leaves their order open, and here portfolios rise
+unfoldable pub sellersNamed : Verdict → List Row
+sellersNamed v = map (sellerRow v) (those (isNamed v) 16)
+
+-- the sellers of a constraint
+abbrev pub sellerRows : Verdict → List Row
+sellerRows v = sellersNamed (shown v)
+
+-- ---- "interval resource end price"
+abbrev pub stepRow : Step → Row
+stepRow s = pos (printable (s .end)) ∷ s .price ∷ []
+
+-- the steps of a resource's present curve
+abbrev pub curveRows : engine.Row → List Row
+curveRows x = map stepRow (usedSteps (rowCurve x))
+
+-- ---- "Each accepted interval, counted from 1, prints its three tables, names lines included"
+abbrev pub verdictNames : List ℕ
+verdictNames = bytes "interval constraint verdict demand left\n"
+
+abbrev pub sellerNames : List ℕ
+sellerNames = bytes "interval constraint portfolio withheld\n"
+
+abbrev pub curveNames : List ℕ
+curveNames = bytes "interval resource end price\n"
+
+-- the verdicts on the first n constraints
+unfoldable pub verdictTable : ℕ → ℕ → List Verdict → List ℕ
+verdictTable i n verdicts = tableText (printable i) 0 (map verdictRows (take n verdicts))
+
+-- the sellers named for them
+unfoldable pub sellerTable : ℕ → ℕ → List Verdict → List ℕ
+sellerTable i n verdicts = tableText (printable i) 0 (map sellerRows (take n verdicts))
+
+-- the curves of the first n resources
+unfoldable pub curveTable : ℕ → ℕ → List engine.Row → List ℕ
+curveTable i n rows = tableText (printable i) 0 (map curveRows (take n rows))
+
+-- the page of interval i, with n constraints, that leaves this hour
+unfoldable pub pageText : ℕ → Hour → ℕ → List Verdict → List ℕ
+pageText i h n verdicts =
+    verdictNames ++ (verdictTable i n verdicts
+    ++ (sellerNames ++ (sellerTable i n verdicts
+    ++ (curveNames ++ curveTable i (h .market .resources) (h .rows)))))
+
+-- ---- a text put into a buffer at an offset
+-- a page is put where at least so many bytes are left: 32 verdicts of up to 105 bytes, each with up to 16 sellers of 84, and 64 curves of up to 19 steps of 84, with the names lines, take 148,619 at most
+abbrev pub pageRoom : ℕ
+pageRoom = 163840
+
+-- the lines of a refusal take 55 at most
+abbrev pub refusalRoom : ℕ
+refusalRoom = 64
+
+-- a text of at most so many bytes is put at an offset, and r is the offset after it
+pub record Put (most : ℕ) (out : List ℕ) (at : ℕ) (text now : List ℕ) (r : ℕ) : Type 0 where
+  pub buffer : now ≡ sets out at text
+  pub next : r ≡ at + length text
+  pub few : r ≤ at + most
+
+-- whether that many bytes are left
+abbrev pub hasRoom : ℕ → List ℕ → ℕ → Bool
+hasRoom room out at = leb (at + room) (length out)
+
+-- the buffer afterwards, in which nothing is changed where fewer bytes are left
+unfoldable pub putWithin : ℕ → List ℕ → ℕ → List ℕ → List ℕ
+putWithin room out at text = cond (hasRoom room out at) (sets out at text) out
+
+-- the offset after the text, where it is put
+unfoldable pub putWithinTo : ℕ → List ℕ → ℕ → List ℕ → Printed
+putWithinTo room out at text = cond (hasRoom room out at) (To (at + length text)) Full

@@ -1,0 +1,244 @@
+// The page of an accepted interval and the lines of a refusal (paper 01, Text), put into a lent buffer at an offset. The contracts cite specs/Pages.
+use engine::Hour;
+use interval::Interval;
+use mitigation::Mitigated;
+use path::Finding;
+use path::Market;
+use path::Verdict;
+use resource::Row;
+use text::pages::Printed;
+ghost use mathlib.Core.Path.{_≡_};
+ghost use mathlib.Core.List.{_∷_, [], map};
+ghost use Prim.Native.Nat.{_+_, _<_, _≤_, min};
+ghost use lib.Dec.{leb};
+ghost use lib.IntN.{pos};
+ghost use lib.ListN.{length};
+ghost use lib.Seq.{sets};
+ghost use Rattle.mitigation.specs.Mitigation.{usedSteps};
+ghost use Rattle.text.specs.Pages.{lineText, groupText, refusalText};
+ghost use Rattle.page.specs.Pages.{printable as printableOf};
+ghost use Rattle.page.specs.Pages.{shown as shownOf};
+ghost use Rattle.page.specs.Pages.{stepRow, verdictRow, sellersNamed, verdictTable, sellerTable, curveTable, pageText, Put, pageRoom, refusalRoom, putWithin, putWithinTo};
+
+// A page is put where at least this many bytes are left.
+pub const PAGE_ROOM: usize = 163_840;
+
+// The lines of a refusal are put where at least this many bytes are left.
+pub const REFUSAL_ROOM: usize = 64;
+
+// A quantity as it is printed.
+fn printable(n: u64) -> i64
+    ensures { λ r. ⌜ r ≡ pos (printableOf n) ⌝ }
+{
+    if n < 9_223_372_036_854_775_807 {
+        return n as i64;
+    }
+    9_223_372_036_854_775_807
+}
+
+fn at_most(n: usize, most: usize) -> usize
+    ensures { λ r. ⌜ r ≡ min n most ⌝ }
+{
+    if n < most { n } else { most }
+}
+
+fn has_room(length: usize, at: usize, room: usize) -> bool
+    ensures { λ r. ⌜ r ≡ leb (at + room) length ⌝ }
+{
+    if length < at {
+        return false;
+    }
+    room <= length - at
+}
+
+// Puts a names line at an offset, and answers the offset after it.
+fn put_names(out: &mut [u8], at: usize, names: &[u8]) -> usize
+    requires { ⌜ at + length (now names) ≤ length (now out) ⌝ }
+    ensures { λ r. ⌜ (now (out .exit) ≡ sets (now (out .entry)) at (now (names .entry))) × (r ≡ at + length (now (names .entry))) ⌝ }
+{
+    match text::pages::print_names(out, at, names) {
+        Printed::To(next) => next,
+        Printed::Full => at,
+    }
+}
+
+// Puts a line of four values at an offset, and answers the offset after it.
+fn put_four(out: &mut [u8], at: usize, a: u64, b: u64, c: u64, d: i64) -> usize
+    requires { ⌜ at + 84 ≤ length (now out) ⌝ }
+    ensures { λ r. ⌜ Put 84 (now (out .entry)) at (lineText (pos (printableOf a) ∷ pos (printableOf b) ∷ pos (printableOf c) ∷ d ∷ [])) (now (out .exit)) r ⌝ }
+{
+    let row = [printable(a), printable(b), printable(c), d, 0];
+    match text::pages::print_line(out, at, row, 4) {
+        Printed::To(next) => next,
+        Printed::Full => at,
+    }
+}
+
+// A verdict as it is printed.
+fn shown(v: Verdict) -> Verdict
+    ensures { λ r. ⌜ r ≡ shownOf v ⌝ }
+{
+    let finding = v.finding;
+    match finding {
+        Finding::Competitive => v,
+        Finding::NonCompetitive => v,
+        Finding::NotBinding => Verdict::not_binding(),
+    }
+}
+
+// Puts the steps of the curve of resource r, a line each, and answers the offset after them.
+fn put_steps(out: &mut [u8], at: usize, i: u64, r: u64, curve: Mitigated) -> usize
+    requires { ⌜ (at + 1596 ≤ length (now out)) × (r < 64) ⌝ }
+    ensures { λ q. ⌜ Put 1596 (now (out .entry)) at (groupText (printableOf i) r (map stepRow (usedSteps curve))) (now (out .exit)) q ⌝ }
+{
+    let n = at_most(curve.count, Mitigated::MAX_STEPS);
+    let mut p = at;
+    let mut s: usize = 0;
+    while s < n {
+        let step = curve.steps[s];
+        p = put_four(out, p, i, r, step.end, step.price);
+        s += 1;
+    }
+    p
+}
+
+// Puts the verdict on constraint c as a line, and answers the offset after it.
+fn put_verdict(out: &mut [u8], at: usize, i: u64, c: u64, v: Verdict) -> usize
+    requires { ⌜ (at + 105 ≤ length (now out)) × (c < 32) ⌝ }
+    ensures { λ q. ⌜ Put 105 (now (out .entry)) at (lineText (pos (printableOf i) ∷ pos c ∷ verdictRow v)) (now (out .exit)) q ⌝ }
+{
+    let finding = v.finding;
+    let row = [
+        printable(i),
+        printable(c),
+        printable(finding.number()),
+        printable(v.demand),
+        printable(v.left),
+    ];
+    match text::pages::print_line(out, at, row, 5) {
+        Printed::To(next) => next,
+        Printed::Full => at,
+    }
+}
+
+// Puts the verdicts on the first constraints, a line each, and answers the offset after them.
+fn put_verdicts(
+    out: &mut [u8],
+    at: usize,
+    i: u64,
+    constraints: usize,
+    verdicts: [Verdict; Interval::MAX_CONSTRAINTS],
+) -> usize
+    requires { ⌜ at + 3360 ≤ length (now out) ⌝ }
+    ensures { λ q. ⌜ Put 3360 (now (out .entry)) at (verdictTable i constraints verdicts) (now (out .exit)) q ⌝ }
+{
+    let n = at_most(constraints, Interval::MAX_CONSTRAINTS);
+    let mut p = at;
+    let mut c: usize = 0;
+    while c < n {
+        let v = verdicts[c];
+        p = put_verdict(out, p, i, c as u64, shown(v));
+        c += 1;
+    }
+    p
+}
+
+// Puts the sellers named for constraint c, a line each, and answers the offset after them.
+fn put_named(out: &mut [u8], at: usize, i: u64, c: u64, v: Verdict) -> usize
+    requires { ⌜ (at + 1344 ≤ length (now out)) × (c < 32) ⌝ }
+    ensures { λ q. ⌜ Put 1344 (now (out .entry)) at (groupText (printableOf i) c (sellersNamed v)) (now (out .exit)) q ⌝ }
+{
+    let mut q = at;
+    let mut p: usize = 0;
+    while p < Market::MAX_PORTFOLIOS {
+        let amount = v.withheld[p];
+        if v.names(p as u64) {
+            q = put_four(out, q, i, c, p as u64, printable(amount));
+        }
+        p += 1;
+    }
+    q
+}
+
+// Puts the sellers named for the first constraints, and answers the offset after them.
+fn put_sellers(
+    out: &mut [u8],
+    at: usize,
+    i: u64,
+    constraints: usize,
+    verdicts: [Verdict; Interval::MAX_CONSTRAINTS],
+) -> usize
+    requires { ⌜ at + 43008 ≤ length (now out) ⌝ }
+    ensures { λ q. ⌜ Put 43008 (now (out .entry)) at (sellerTable i constraints verdicts) (now (out .exit)) q ⌝ }
+{
+    let n = at_most(constraints, Interval::MAX_CONSTRAINTS);
+    let mut p = at;
+    let mut c: usize = 0;
+    while c < n {
+        let v = verdicts[c];
+        p = put_named(out, p, i, c as u64, shown(v));
+        c += 1;
+    }
+    p
+}
+
+// Puts the curves of the first resources, a line for each step, and answers the offset after them.
+fn put_curves(
+    out: &mut [u8],
+    at: usize,
+    i: u64,
+    resources: usize,
+    rows: [Row; Hour::MAX_RESOURCES],
+) -> usize
+    requires { ⌜ at + 102144 ≤ length (now out) ⌝ }
+    ensures { λ q. ⌜ Put 102144 (now (out .entry)) at (curveTable i resources rows) (now (out .exit)) q ⌝ }
+{
+    let n = at_most(resources, Hour::MAX_RESOURCES);
+    let mut p = at;
+    let mut r: usize = 0;
+    while r < n {
+        let row = rows[r];
+        p = put_steps(out, p, i, r as u64, engine::row_curve(row));
+        r += 1;
+    }
+    p
+}
+
+// Prints the page of interval i, which has this many constraints and leaves this hour: its three tables, where there is room.
+pub fn print_page(
+    out: &mut [u8],
+    at: usize,
+    i: u64,
+    hour: Hour,
+    constraints: usize,
+    verdicts: [Verdict; Interval::MAX_CONSTRAINTS],
+) -> Printed
+    ensures buffer { λ r. ⌜ now (out .exit) ≡ putWithin pageRoom (now (out .entry)) at (pageText i hour constraints verdicts) ⌝ }
+    ensures next { λ r. ⌜ r ≡ putWithinTo pageRoom (now (out .entry)) at (pageText i hour constraints verdicts) ⌝ }
+    ensures whole { λ r. ⌜ (at + pageRoom ≤ length (now (out .entry)) → length (pageText i hour constraints verdicts) ≤ pageRoom) ⌝ }
+{
+    if !has_room(out.len(), at, PAGE_ROOM) {
+        return Printed::Full;
+    }
+    let market = hour.market;
+    let rows = hour.rows;
+    let a = put_names(out, at, b"interval constraint verdict demand left\n");
+    let b = put_verdicts(out, a, i, constraints, verdicts);
+    let c = put_names(out, b, b"interval constraint portfolio withheld\n");
+    let d = put_sellers(out, c, i, constraints, verdicts);
+    let e = put_names(out, d, b"interval resource end price\n");
+    Printed::To(put_curves(out, e, i, market.resources, rows))
+}
+
+// Prints the lines of a refusal, its number and its line, where there is room.
+pub fn print_refusal(out: &mut [u8], at: usize, number: u64, line: u64) -> Printed
+    ensures buffer { λ r. ⌜ now (out .exit) ≡ putWithin refusalRoom (now (out .entry)) at (refusalText (printableOf number) (printableOf line)) ⌝ }
+    ensures next { λ r. ⌜ r ≡ putWithinTo refusalRoom (now (out .entry)) at (refusalText (printableOf number) (printableOf line)) ⌝ }
+{
+    if !has_room(out.len(), at, REFUSAL_ROOM) {
+        return Printed::Full;
+    }
+    let next = put_names(out, at, b"refusal line\n");
+    let row = [printable(number), printable(line), 0, 0, 0];
+    text::pages::print_line(out, next, row, 2)
+}

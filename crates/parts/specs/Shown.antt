@@ -1,0 +1,55 @@
+-- What the code's answers stand for.
+use Prim.Native.Nat.{ℕ, zero, suc}
+use mathlib.Core.Bool.{true, false}
+use mathlib.Core.List.{List}
+use mathlib.Core.Option.{Option, none, some}
+use lib.ListN.{drop}
+use lib.IntN.{ℤ, pos}
+use Rattle.number.specs.Order.{natOf}
+use Rattle.interval.specs.declared.Interval.{Interval}
+use Rattle.text.specs.Numbers.{Row, lines}
+use Rattle.text.specs.Tables.{Reading, faulty, found, cell}
+use Rattle.parts.specs.Parts.{factorCell}
+use Rattle.parts.specs.declared.values.Value.{Value}
+use Rattle.parts.specs.declared.intervals.Constraints.{Constraints}
+use Rattle.parts.specs.declared.intervals.Outputs.{Outputs}
+use Rattle.parts.specs.declared.intervals.Factor.{Factor}
+use Rattle.parts.specs.declared.intervals.Factors.{Factors}
+use Rattle.parts.specs.declared.intervals.IntervalRead.{IntervalRead}
+
+-- fault 0: what is found, up to line `line`, with the next line at offset `next` of the text
+abbrev pub reading : {A : Type 0} → List ℕ → ℕ → A → ℕ → ℕ → Reading A
+reading s zero a line next = found a line (lines (drop next s))
+reading s (suc fault) a line next = faulty (suc fault)
+
+abbrev pub shownValue : List ℕ → Value → Reading ℤ
+shownValue s r = reading s (r .fault) (r .value) (r .line) (r .next)
+
+-- the factor of a line before the offset `next`, or none
+abbrev pub asFactor : ℕ → Option Row → Factor
+asFactor next none = record { ok = false; resource = 0; constraint = 0; cell = 0; value = pos 0; next = 0 }
+asFactor next (some x) = record {
+  ok = true;
+  resource = natOf (cell 0 x);
+  constraint = natOf (cell 1 x);
+  cell = factorCell (natOf (cell 0 x)) (natOf (cell 1 x));
+  value = cell 2 x;
+  next = next;
+}
+
+-- the interval of its four tables
+abbrev pub tablesOf : Constraints → Outputs → Factors → ℤ → Interval
+tablesOf cs os fs parameter = record {
+  constraints = cs .count;
+  shadow = cs .shadow;
+  resources = os .count;
+  lmp = os .lmp;
+  dispatch = os .dispatch;
+  available = os .available;
+  floor = os .floor;
+  factors = fs .factors;
+  parameter = parameter;
+}
+
+abbrev pub shownInterval : List ℕ → IntervalRead → Reading Interval
+shownInterval s r = reading s (r .fault) (r .interval) (r .line) (r .next)
