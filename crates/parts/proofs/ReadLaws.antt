@@ -13,7 +13,8 @@ use Rattle.text.specs.Tables.{Reading, faulty, found, taken, due, headed, cell,
 use Rattle.text.proofs.LineLaws.{line, after, lines-after, next-lines}
 use Rattle.text.proofs.TableLaws.{row-there, due-none, due-some}
 use Rattle.parts.specs.Parts.{parameterOf}
-use Rattle.parts.specs.Shown.{reading}
+use Rattle.parts.specs.Shown.{reading, faultAlone, aloneIf}
+use Rattle.parts.specs.declared.intervals.IntervalRead.{IntervalRead}
 
 -- ---- what an answer shows
 pub refuses : {A : Type 0} (s : List ℕ) (f fault : ℕ) (a : A) (line next : ℕ) → f ≡ fault → (fault ≡ 0 → ⊥) → reading s f a line next ≡ faulty fault
@@ -61,3 +62,11 @@ pub parameter-there : (n : ℕ) (ls : List Line) (j : ℕ) → headed "-\n" miss
 unfolding headed due parameterOf
 parameter-there n [] j e = refl
 parameter-there n (l ∷ ls) j e = is-there (same (bytes "-\n") l) (single l) n ls j e
+
+-- an answer that is a faulty line's number alone
+alone-of : (r : IntervalRead) (f : ℕ) → r ≡ faultAlone f → r ≡ aloneIf f r
+alone-of r zero e = refl
+alone-of r (suc f) e = e
+
+pub alone : (r : IntervalRead) (f : ℕ) → r ≡ faultAlone f → r ≡ aloneIf (r .fault) r
+alone r f e = alone-of r f e ∙ ap (λ (n : ℕ). aloneIf n r) (sym (ap (λ (x : IntervalRead). x .fault) e))

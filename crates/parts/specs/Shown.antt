@@ -3,7 +3,7 @@ use Prim.Native.Nat.{ℕ, zero, suc}
 use mathlib.Core.Bool.{true, false}
 use mathlib.Core.List.{List}
 use mathlib.Core.Option.{Option, none, some}
-use lib.ListN.{drop}
+use lib.ListN.{drop, replicate}
 use lib.IntN.{ℤ, pos}
 use Rattle.number.specs.Order.{natOf}
 use Rattle.interval.specs.declared.Interval.{Interval}
@@ -53,3 +53,27 @@ tablesOf cs os fs parameter = record {
 
 abbrev pub shownInterval : List ℕ → IntervalRead → Reading Interval
 shownInterval s r = reading s (r .fault) (r .interval) (r .line) (r .next)
+
+-- a faulty line's number alone: the rest is blank
+abbrev pub faultAlone : ℕ → IntervalRead
+faultAlone fault = record {
+  fault = fault;
+  interval = record {
+    constraints = 0;
+    shadow = replicate 32 (pos 0);
+    resources = 0;
+    lmp = replicate 64 (pos 0);
+    dispatch = replicate 64 (pos 0);
+    available = replicate 64 (pos 0);
+    floor = replicate 64 (pos 0);
+    factors = replicate 2048 (pos 0);
+    parameter = pos 0;
+  };
+  line = 0;
+  next = 0;
+}
+
+-- an answer that gives a faulty line's number gives nothing else
+abbrev pub aloneIf : ℕ → IntervalRead → IntervalRead
+aloneIf zero r = r
+aloneIf (suc fault) r = faultAlone (suc fault)

@@ -19,7 +19,7 @@ ghost use Rattle.text.specs.Numbers.{lines, row};
 ghost use Rattle.text.specs.Tables.{cell, counting, due, ifSuits};
 ghost use Rattle.text.specs.Offsets.{kept, lineAt};
 ghost use Rattle.parts.specs.Parts.{isDeclared, place, isFactor, factorCell, factorRows, withFactors, parameterOf, readInterval};
-ghost use Rattle.parts.specs.Shown.{shownValue, asFactor, tablesOf, shownInterval};
+ghost use Rattle.parts.specs.Shown.{shownValue, asFactor, tablesOf, shownInterval, faultAlone, aloneIf};
 
 // What reading an interval's part answers: the interval, the number of its last line and the offset of the next, or the number of the faulty line.
 pub struct IntervalRead {
@@ -290,7 +290,7 @@ fn interval_of(
 
 // A faulty line's number alone: the interval is blank.
 fn no_interval(fault: usize) -> IntervalRead
-    ensures { λ r. ⌜ r .fault ≡ fault ⌝ }
+    ensures { λ r. ⌜ r ≡ faultAlone fault ⌝ }
 {
     IntervalRead {
         fault,
@@ -312,7 +312,8 @@ fn no_interval(fault: usize) -> IntervalRead
 
 // The interval's part at an offset before which `line` lines stand.
 pub fn interval_at(s: &[u8], at: usize, line: usize) -> IntervalRead
-    ensures { λ r. ⌜ shownInterval (now (s .entry)) r ≡ readInterval (min line 65536) (lines (drop at (now (s .entry)))) ⌝ }
+    ensures reading { λ r. ⌜ shownInterval (now (s .entry)) r ≡ readInterval (min line 65536) (lines (drop at (now (s .entry)))) ⌝ }
+    ensures refusal { λ r. ⌜ r ≡ aloneIf (r .fault) r ⌝ }
 {
     let line = at_most_lines(line);
     let Found::At(at) = line_is(s, at, b"constraint shadow\n") else {

@@ -13,7 +13,8 @@ use Rattle.text.specs.Tables.{Reading, found, headed, counting, counted, rows}
 use Rattle.text.specs.Offsets.{namesAt}
 use Rattle.text.specs.declared.lines.Found.the-variants.{At, Nothing}
 use Rattle.parts.specs.Parts.{factorRows, withFactors, intervalOf, readInterval}
-use Rattle.parts.proofs.ReadLaws.{refuses, refuses-after}
+use Rattle.parts.specs.declared.intervals.IntervalRead.{IntervalRead}
+use Rattle.parts.proofs.ReadLaws.{refuses, refuses-after, alone}
 use Rattle.parts.proofs.StageLaws.{Stage, text-few}
 use Rattle.parts.proofs.IntervalLaws.{constraint-stage, output-stage, factor-stage, unnamed-one, unnamed-two, unnamed-three, unnamed-four, no-parameter, whole, by-fields}
 use Rattle.parts.proofs.intervals.interval_at.Statement.{statement}
@@ -148,9 +149,11 @@ no-interval-requires c κs = search needs
 returns : tie.Need-returns
 returns c =
     let l = c .before .before .before in
-    let a = begun l in
-    refuses-after (text a) (c .no-interval .result .fault) (before a) (c .no-interval .result .interval) (c .no-interval .result .line) (c .no-interval .result .next) (c .no-interval .ensures)
-    ∙ sym (unnamed-one (text a) (before a) (offset a) (sym (c .before .enum-told .given .1) ∙ l .line-is .ensures)) ∙ whole-part a
+    let a = begun l in (
+      refuses-after (text a) (c .no-interval .result .fault) (before a) (c .no-interval .result .interval) (c .no-interval .result .line) (c .no-interval .result .next) (ap (λ (x : IntervalRead). x .fault) (c .no-interval .ensures))
+          ∙ sym (unnamed-one (text a) (before a) (offset a) (sym (c .before .enum-told .given .1) ∙ l .line-is .ensures)) ∙ whole-part a,
+      alone (c .no-interval .result) (before a + 1) (c .no-interval .ensures),
+    )
 
 constraints-at-requires : tie.Need-constraints-at-requires
 constraints-at-requires c κs = search needs
@@ -183,9 +186,11 @@ returns-2 : tie.Need-returns-2
 returns-2 c =
     let l = c .before .before .before in
     let k = l .before .before in
-    let a = start1 k in
-    refuses-after (text a) (c .no-interval2 .result .fault) (lines1 k) (c .no-interval2 .result .interval) (c .no-interval2 .result .line) (c .no-interval2 .result .next) (c .no-interval2 .ensures)
-    ∙ sym (unnamed-two (text a) (before a) (offset a) (rows1 k) (lines1 k) (k .constraints-at .result .next) (one k) (sym (c .before .enum-told2 .given .1) ∙ l .line-is2 .ensures)) ∙ whole-part a
+    let a = start1 k in (
+      refuses-after (text a) (c .no-interval2 .result .fault) (lines1 k) (c .no-interval2 .result .interval) (c .no-interval2 .result .line) (c .no-interval2 .result .next) (ap (λ (x : IntervalRead). x .fault) (c .no-interval2 .ensures))
+          ∙ sym (unnamed-two (text a) (before a) (offset a) (rows1 k) (lines1 k) (k .constraints-at .result .next) (one k) (sym (c .before .enum-told2 .given .1) ∙ l .line-is2 .ensures)) ∙ whole-part a,
+      alone (c .no-interval2 .result) (lines1 k + 1) (c .no-interval2 .ensures),
+    )
 
 outputs-at-requires : tie.Need-outputs-at-requires
 outputs-at-requires c κs = search needs
@@ -219,10 +224,12 @@ returns-3 c =
     let l = c .before .before .before in
     let k = l .before .before in
     let j = first k in
-    let a = start2 k in
-    refuses-after (text a) (c .no-interval3 .result .fault) (lines2 k) (c .no-interval3 .result .interval) (c .no-interval3 .result .line) (c .no-interval3 .result .next) (c .no-interval3 .ensures)
-    ∙ sym (unnamed-three (text a) (before a) (offset a) (rows1 j) (lines1 j) (j .constraints-at .result .next) (one j) (rows2 k) (lines2 k) (k .outputs-at .result .next) (two k)
-    (sym (c .before .enum-told3 .given .1) ∙ l .line-is3 .ensures)) ∙ whole-part a
+    let a = start2 k in (
+      refuses-after (text a) (c .no-interval3 .result .fault) (lines2 k) (c .no-interval3 .result .interval) (c .no-interval3 .result .line) (c .no-interval3 .result .next) (ap (λ (x : IntervalRead). x .fault) (c .no-interval3 .ensures))
+          ∙ sym (unnamed-three (text a) (before a) (offset a) (rows1 j) (lines1 j) (j .constraints-at .result .next) (one j) (rows2 k) (lines2 k) (k .outputs-at .result .next) (two k)
+          (sym (c .before .enum-told3 .given .1) ∙ l .line-is3 .ensures)) ∙ whole-part a,
+      alone (c .no-interval3 .result) (lines2 k + 1) (c .no-interval3 .ensures),
+    )
 
 factors-at-requires : tie.Need-factors-at-requires
 factors-at-requires c κs = search needs
@@ -257,10 +264,12 @@ returns-4 c =
     let k = l .before .before .before in
     let i = second k in
     let j = first i in
-    let a = start3 k in
-    refuses-after (text a) (c .no-interval4 .result .fault) (lines3 k) (c .no-interval4 .result .interval) (c .no-interval4 .result .line) (c .no-interval4 .result .next) (c .no-interval4 .ensures)
-    ∙ sym (unnamed-four (text a) (before a) (offset a) (rows1 j) (lines1 j) (j .constraints-at .result .next) (one j) (rows2 i) (lines2 i) (i .outputs-at .result .next) (two i)
-    (rows3 k) (lines3 k) (k .factors-at .result .next) (three k) (sym (c .before .enum-told4 .given .1) ∙ l .line-is4 .ensures)) ∙ whole-part a
+    let a = start3 k in (
+      refuses-after (text a) (c .no-interval4 .result .fault) (lines3 k) (c .no-interval4 .result .interval) (c .no-interval4 .result .line) (c .no-interval4 .result .next) (ap (λ (x : IntervalRead). x .fault) (c .no-interval4 .ensures))
+          ∙ sym (unnamed-four (text a) (before a) (offset a) (rows1 j) (lines1 j) (j .constraints-at .result .next) (one j) (rows2 i) (lines2 i) (i .outputs-at .result .next) (two i)
+          (rows3 k) (lines3 k) (k .factors-at .result .next) (three k) (sym (c .before .enum-told4 .given .1) ∙ l .line-is4 .ensures)) ∙ whole-part a,
+      alone (c .no-interval4 .result) (lines3 k + 1) (c .no-interval4 .ensures),
+    )
 
 abbrev third : tie.After-known-told4 → tie.After-factors-at
 third c = c .before .before .before .before .before .before
@@ -282,11 +291,13 @@ returns-5 c =
     let i = second k in
     let j = first i in
     let a = start3 k in
-    let r = p .parameter-at .result in
-    refuses (text a) (c .no-interval5 .result .fault) (r .fault) (c .no-interval5 .result .interval) (c .no-interval5 .result .line) (c .no-interval5 .result .next) (c .no-interval5 .ensures) (c .before .if1 .taken)
-    ∙ sym (no-parameter (text a) (before a) (offset a) (rows1 j) (lines1 j) (j .constraints-at .result .next) (one j) (rows2 i) (lines2 i) (i .outputs-at .result .next) (two i)
-    (rows3 k) (lines3 k) (k .factors-at .result .next) (three k) (q .at4 .given .0 .0) (sym (q .at4 .given .1) ∙ q .before .before .line-is4 .ensures)
-    (r .fault) (r .value) (r .line) (r .next) (p .parameter-at .ensures) (c .before .if1 .taken)) ∙ whole-part a
+    let r = p .parameter-at .result in (
+      refuses (text a) (c .no-interval5 .result .fault) (r .fault) (c .no-interval5 .result .interval) (c .no-interval5 .result .line) (c .no-interval5 .result .next) (ap (λ (x : IntervalRead). x .fault) (c .no-interval5 .ensures)) (c .before .if1 .taken)
+          ∙ sym (no-parameter (text a) (before a) (offset a) (rows1 j) (lines1 j) (j .constraints-at .result .next) (one j) (rows2 i) (lines2 i) (i .outputs-at .result .next) (two i)
+          (rows3 k) (lines3 k) (k .factors-at .result .next) (three k) (q .at4 .given .0 .0) (sym (q .at4 .given .1) ∙ q .before .before .line-is4 .ensures)
+          (r .fault) (r .value) (r .line) (r .next) (p .parameter-at .ensures) (c .before .if1 .taken)) ∙ whole-part a,
+      alone (c .no-interval5 .result) (r .fault) (c .no-interval5 .ensures),
+    )
 
 interval-of-requires : tie.Need-interval-of-requires
 interval-of-requires c κs = search needs
@@ -305,11 +316,13 @@ returns-6 c =
     c .interval-of .ensures
     ∙ by-fields (j .constraints-at .ensures .0) (j .constraints-at .ensures .1 .0) (i .outputs-at .ensures .0) (i .outputs-at .ensures .1 .0) (i .outputs-at .ensures .1 .1 .0)
     (i .outputs-at .ensures .1 .1 .1 .0) (i .outputs-at .ensures .1 .1 .1 .1 .0) (k .factors-at .ensures .1 .0 ∙ ap (withFactors (replicate 2048 (pos 0))) (rows-are k))
-    (came (r .value) (c .before .struct-told .given .1 .0 .1)) in
-    ap (λ (x : Interval). found x (r .line) (lines (drop (r .next) (text a)))) v
-    ∙ sym (whole (text a) (before a) (offset a) (rows1 j) (lines1 j) (j .constraints-at .result .next) (one j) (rows2 i) (lines2 i) (i .outputs-at .result .next) (two i)
-    (rows3 k) (lines3 k) (k .factors-at .result .next) (three k) (q .at4 .given .0 .0) (sym (q .at4 .given .1) ∙ q .before .before .line-is4 .ensures)
-    (r .fault) (r .value) (r .line) (r .next) (p .parameter-at .ensures) (c .before .before .if1 .left)) ∙ whole-part a
+    (came (r .value) (c .before .struct-told .given .1 .0 .1)) in (
+      ap (λ (x : Interval). found x (r .line) (lines (drop (r .next) (text a)))) v
+          ∙ sym (whole (text a) (before a) (offset a) (rows1 j) (lines1 j) (j .constraints-at .result .next) (one j) (rows2 i) (lines2 i) (i .outputs-at .result .next) (two i)
+          (rows3 k) (lines3 k) (k .factors-at .result .next) (three k) (q .at4 .given .0 .0) (sym (q .at4 .given .1) ∙ q .before .before .line-is4 .ensures)
+          (r .fault) (r .value) (r .line) (r .next) (p .parameter-at .ensures) (c .before .before .if1 .left)) ∙ whole-part a,
+      refl,
+    )
 
 pub interval-at-spec : {M : Type 1} → statement M
 interval-at-spec =
