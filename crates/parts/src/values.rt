@@ -39,7 +39,7 @@ pub(crate) fn value_at(s: &[u8], at: usize, n: usize) -> Value
 }
 
 // The number of the lines before a part: a text has at most 65,536, and a larger number counts as that.
-pub(crate) fn at_most_lines(n: usize) -> usize
+pub fn at_most_lines(n: usize) -> usize
     ensures { λ r. ⌜ r ≡ min n 65536 ⌝ }
 {
     if n < 65_536 { n } else { 65_536 }

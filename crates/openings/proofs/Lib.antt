@@ -1,0 +1,6 @@
+-- Laws of the definitions of specs/.
+pub mod GroupLaws
+pub mod KeepLaws
+pub mod OpeningLaws
+pub mod RestLaws
+pub mod Examples
