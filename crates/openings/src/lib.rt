@@ -17,11 +17,11 @@ use engine::Hour;
 use engine::Opening;
 use parts::values::at_most_lines;
 use path::Market;
+use reader::row_of;
 use resource::Resource;
 use resource::Source;
 use text::lines::Found;
 use text::lines::line_is;
-use text::lines::row_at;
 use text::tables::Portfolios;
 use text::tables::portfolios_at;
 ghost use mathlib.Core.Path.{_≡_};
@@ -197,7 +197,7 @@ pub fn opening_at(s: &[u8], at: usize, line: usize) -> OpeningRead
         return no_opening(line + 1);
     };
     let line = line + 1;
-    let row = row_at(s, at, 1);
+    let row = row_of(s, at, 1);
     let month = row.v;
     if !row.ok {
         return no_opening(line + 1);

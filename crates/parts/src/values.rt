@@ -1,5 +1,5 @@
 // A line of one value that is due. The contracts cite specs/Shown.
-use text::lines::row_at;
+use reader::row_of;
 ghost use mathlib.Core.Path.{_≡_};
 ghost use Prim.Native.Nat.{_+_, _≤_, min};
 ghost use lib.ListN.{length, drop};
@@ -20,7 +20,7 @@ pub(crate) fn value_at(s: &[u8], at: usize, n: usize) -> Value
     requires { ⌜ n ≤ 70000 + length (now s) ⌝ }
     ensures { λ r. ⌜ shownValue (now (s .entry)) r ≡ due single n (lines (drop at (now (s .entry)))) ⌝ }
 {
-    let row = row_at(s, at, 1);
+    let row = row_of(s, at, 1);
     let v = row.v;
     if !row.ok {
         return Value {

@@ -48,26 +48,26 @@ past1 k = k .before .at .given .0 .0
 named1 : (k : tie.After-known-told) → At (past1 k) ≡ namesAt (text (start1 k)) (offset (start1 k)) (bytes "month\n")
 named1 k = sym (k .before .at .given .1) ∙ k .before .before .before .line-is .ensures
 
-abbrev read : tie.Else1 → tie.After-row-at
+abbrev read : tie.Else1 → tie.After-row-of
 read i = i .before .before .before
 
 abbrev began : tie.Else1 → tie.After-at-most-lines
 began i = start1 (read i .before)
 
 -- the line that is read
-answers : (k : tie.After-row-at) → k .row-at .result ≡ asRow (past1 (k .before) + length (line (drop (past1 (k .before)) (text (start1 (k .before)))))) (row 1 (line (drop (past1 (k .before)) (text (start1 (k .before))))))
-answers k = k .row-at .ensures ∙ row-in (λ o. o) (text (start1 (k .before))) (past1 (k .before)) 1 refl
+answers : (k : tie.After-row-of) → k .row-of .result ≡ asRow (past1 (k .before) + length (line (drop (past1 (k .before)) (text (start1 (k .before)))))) (row 1 (line (drop (past1 (k .before)) (text (start1 (k .before))))))
+answers k = k .row-of .ensures ∙ row-in (λ o. o) (text (start1 (k .before))) (past1 (k .before)) 1 refl
 
-abbrev holds : (i : tie.Else1) → Held (past1 (read i .before) + length (line (drop (past1 (read i .before)) (text (began i))))) (row 1 (line (drop (past1 (read i .before)) (text (began i))))) (read i .row-at .result)
-holds i = held _ _ (read i .row-at .result) (answers (read i)) (not-false (read i .row-at .result .ok) (i .if1 .left))
+abbrev holds : (i : tie.Else1) → Held (past1 (read i .before) + length (line (drop (past1 (read i .before)) (text (began i))))) (row 1 (line (drop (past1 (read i .before)) (text (began i))))) (read i .row-of .result)
+holds i = held _ _ (read i .row-of .result) (answers (read i)) (not-false (read i .row-of .result .ok) (i .if1 .left))
 
 abbrev lines1 : tie.Else1 → ℕ
 lines1 i = before (began i) + 1 + 1
 
-one : (i : tie.Else1) → Stage (headed "month\n" (due single)) (text (began i)) (before (began i)) (offset (began i)) (cell 0 (holds i .x)) (lines1 i) (read i .row-at .result .next)
+one : (i : tie.Else1) → Stage (headed "month\n" (due single)) (text (began i)) (before (began i)) (offset (began i)) (cell 0 (holds i .x)) (lines1 i) (read i .row-of .result .next)
 one i =
     let a = began i in
-    month-stage (text a) (before a) (offset a) (past1 (read i .before)) (named1 (read i .before)) (holds i .x) (holds i .is) (read i .row-at .result .next) (holds i .after)
+    month-stage (text a) (before a) (offset a) (past1 (read i .before)) (named1 (read i .before)) (holds i .x) (holds i .is) (read i .row-of .result .next) (holds i .after)
 
 small1 : (i : tie.Else1) → lines1 i ≤ 65536 + length (text (began i))
 small1 i =
@@ -88,9 +88,9 @@ lines2 k = lines1 (first k) + 1 + k .portfolios-at .result .count
 abbrev rows2 : tie.After-portfolios-at → List Row
 rows2 k = counting 2 (lines (drop (past2 k) (text (began (first k)))))
 
-two : (k : tie.After-portfolios-at) → Stage (headed "portfolio seller\n" (counted 2)) (text (began (first k))) (lines1 (first k)) (read (first k) .row-at .result .next) (rows2 k) (lines2 k) (k .portfolios-at .result .next)
+two : (k : tie.After-portfolios-at) → Stage (headed "portfolio seller\n" (counted 2)) (text (began (first k))) (lines1 (first k)) (read (first k) .row-of .result .next) (rows2 k) (lines2 k) (k .portfolios-at .result .next)
 two k =
-    portfolio-stage (text (began (first k))) (lines1 (first k)) (read (first k) .row-at .result .next) (past2 k) (k .portfolios-at .result .count) (k .portfolios-at .result .next)
+    portfolio-stage (text (began (first k))) (lines1 (first k)) (read (first k) .row-of .result .next) (past2 k) (k .portfolios-at .result .count) (k .portfolios-at .result .next)
     (sym (k .before .before .at2 .given .1) ∙ k .before .before .before .before .line-is2 .ensures) (k .portfolios-at .ensures .0) (k .portfolios-at .ensures .1 .1)
 
 small2 : (k : tie.After-portfolios-at) → lines2 k ≤ 65536 + length (text (began (first k)))
@@ -161,8 +161,8 @@ returns c =
 add-line : tie.Need-add-line
 add-line c = search needs
 
-row-at-requires : tie.Need-row-at-requires
-row-at-requires c κs = search needs
+row-of-requires : tie.Need-row-of-requires
+row-of-requires c κs = search needs
 
 add-no-opening-2 : tie.Need-add-no-opening-2
 add-no-opening-2 c = search needs
@@ -176,7 +176,7 @@ returns-2 c =
     let a = start1 (k .before) in
     let r = c .no-opening2 .result in (
       refuses-after (text a) (r .fault) (before a + 1) (r .opening) (r .line) (r .next) (ap (λ (x : OpeningRead). x .fault) (c .no-opening2 .ensures))
-          ∙ sym (no-month (text a) (before a) (offset a) (past1 (k .before)) (named1 (k .before)) (not-held _ _ (k .row-at .result) (answers k) (not-true (k .row-at .result .ok) (c .before .if1 .taken)))) ∙ whole-part a,
+          ∙ sym (no-month (text a) (before a) (offset a) (past1 (k .before)) (named1 (k .before)) (not-held _ _ (k .row-of .result) (answers k) (not-true (k .row-of .result .ok) (c .before .if1 .taken)))) ∙ whole-part a,
       alone r (before a + 1 + 1) (c .no-opening2 .ensures),
     )
 
@@ -211,7 +211,7 @@ returns-3 c =
     let a = began i in
     let r = c .no-opening3 .result in (
       refuses-after (text a) (r .fault) (lines1 i) (r .opening) (r .line) (r .next) (ap (λ (x : OpeningRead). x .fault) (c .no-opening3 .ensures))
-          ∙ sym (unnamed-portfolios (text a) (before a) (offset a) (cell 0 (holds i .x)) (lines1 i) (read i .row-at .result .next) (one i) (sym (c .before .enum-told2 .given .1) ∙ l .line-is2 .ensures)) ∙ whole-part a,
+          ∙ sym (unnamed-portfolios (text a) (before a) (offset a) (cell 0 (holds i .x)) (lines1 i) (read i .row-of .result .next) (one i) (sym (c .before .enum-told2 .given .1) ∙ l .line-is2 .ensures)) ∙ whole-part a,
       alone r (lines1 i + 1) (c .no-opening3 .ensures),
     )
 
@@ -253,7 +253,7 @@ returns-4 c =
     let a = began i in
     let r = c .no-opening4 .result in (
       refuses-after (text a) (r .fault) (lines2 k) (r .opening) (r .line) (r .next) (ap (λ (x : OpeningRead). x .fault) (c .no-opening4 .ensures))
-          ∙ sym (unnamed-owners (text a) (before a) (offset a) (cell 0 (holds i .x)) (lines1 i) (read i .row-at .result .next) (one i) (rows2 k) (lines2 k) (k .portfolios-at .result .next) (two k)
+          ∙ sym (unnamed-owners (text a) (before a) (offset a) (cell 0 (holds i .x)) (lines1 i) (read i .row-of .result .next) (one i) (rows2 k) (lines2 k) (k .portfolios-at .result .next) (two k)
           (sym (c .before .enum-told3 .given .1) ∙ l .line-is3 .ensures)) ∙ whole-part a,
       alone r (lines2 k + 1) (c .no-opening4 .ensures),
     )
@@ -281,13 +281,13 @@ returns-5 c =
     let i = first j in
     let a = start3 k in
     let m = cell 0 (holds i .x) in
-    let v = read i .row-at .result .v in
+    let v = read i .row-of .result .v in
     let p = j .portfolios-at in
     let o = k .owners-at in (
       c .rest-at .ensures .0
           ∙ ap (λ (z : ℤ). readRest z (p .result) (o .result) (lines3 k) (lines (drop (o .result .next) (text a)))) (came (getD v 0 (pos 0)) (t .rest-at-arg .given) ∙ holds i .cells 0 (omega arith))
           ∙ rest-same m (rows2 j) (rows3 k) (p .result) (o .result) (p .ensures .0) (p .ensures .1 .0) (o .ensures .0) (o .ensures .1 .0) (o .ensures .1 .1 .0) (lines3 k) (lines (drop (o .result .next) (text a)))
-          ∙ sym (read-three (text a) (before a) (offset a) m (lines1 i) (read i .row-at .result .next) (one i) (rows2 j) (lines2 j) (p .result .next) (two j) (rows3 k) (lines3 k) (o .result .next) (three k)) ∙ whole-part a,
+          ∙ sym (read-three (text a) (before a) (offset a) m (lines1 i) (read i .row-of .result .next) (one i) (rows2 j) (lines2 j) (p .result .next) (two j) (rows3 k) (lines3 k) (o .result .next) (three k)) ∙ whole-part a,
       c .rest-at .ensures .1,
     )
 
@@ -304,7 +304,7 @@ opening-at-spec =
     no-opening-requires
     returns
     add-line
-    row-at-requires
+    row-of-requires
     add-no-opening-2
     no-opening-requires-2
     returns-2

@@ -16,13 +16,13 @@ use Rattle.parts.proofs.ReadLaws.{refuses-after, value-missing, value-f
 use Rattle.parts.proofs.values.value_at.Statement.{statement}
 use Rattle.parts.proofs.values.value_at.Tie as tie
 
-row-at-requires : tie.Need-row-at-requires
-row-at-requires c κs = search needs
+row-of-requires : tie.Need-row-of-requires
+row-of-requires c κs = search needs
 
 -- the line that is read
-answers : (c : tie.After-row-at)
-    → c .row-at .result ≡ asRow (c .before .before .args .at + length (line (drop (c .before .before .args .at) (c .before .before .args .s .now)))) (row 1 (line (drop (c .before .before .args .at) (c .before .before .args .s .now))))
-answers c = c .row-at .ensures ∙ row-in (λ o. o) (c .before .before .args .s .now) (c .before .before .args .at) 1 refl
+answers : (c : tie.After-row-of)
+    → c .row-of .result ≡ asRow (c .before .before .args .at + length (line (drop (c .before .before .args .at) (c .before .before .args .s .now)))) (row 1 (line (drop (c .before .before .args .at) (c .before .before .args .s .now))))
+answers c = c .row-of .ensures ∙ row-in (λ o. o) (c .before .before .args .s .now) (c .before .before .args .at) 1 refl
 
 add-t7 : tie.Need-add-t7
 add-t7 c = search needs
@@ -32,7 +32,7 @@ returns c =
     let r = c .before .before .before in
     let a = r .before .before .args in
     refuses-after (a .s .now) (a .n + 1) (a .n) (pos 0) 0 0 refl
-    ∙ sym (value-missing (a .s .now) (a .at) (a .n) (not-held _ _ (r .row-at .result) (answers r) (not-true (r .row-at .result .ok) (c .if1 .taken))))
+    ∙ sym (value-missing (a .s .now) (a .at) (a .n) (not-held _ _ (r .row-of .result) (answers r) (not-true (r .row-of .result .ok) (c .if1 .taken))))
 
 array-copy-out-t10 : tie.Need-array-copy-out-t10
 array-copy-out-t10 c = search needs
@@ -44,9 +44,9 @@ returns-2 : tie.Need-returns-2
 returns-2 c =
     let r = c .before .before .before .before in
     let a = r .before .before .args in
-    let h = held _ _ (r .row-at .result) (answers r) (not-false (r .row-at .result .ok) (c .before .if1 .left)) in
-    ap (λ (z : ℤ). found z (a .n + 1) (lines (drop (r .row-at .result .next) (a .s .now)))) (came (getD (r .row-at .result .v) 0 (pos 0)) (c .t10 .given) ∙ h .cells 0 (omega arith))
-    ∙ sym (value-found (a .s .now) (a .at) (a .n) (h .x) (h .is) (r .row-at .result .next) (h .after))
+    let h = held _ _ (r .row-of .result) (answers r) (not-false (r .row-of .result .ok) (c .before .if1 .left)) in
+    ap (λ (z : ℤ). found z (a .n + 1) (lines (drop (r .row-of .result .next) (a .s .now)))) (came (getD (r .row-of .result .v) 0 (pos 0)) (c .t10 .given) ∙ h .cells 0 (omega arith))
+    ∙ sym (value-found (a .s .now) (a .at) (a .n) (h .x) (h .is) (r .row-of .result .next) (h .after))
 
 pub value-at-spec : {M : Type 1} → statement M
-value-at-spec = tie.close (tie.spec row-at-requires add-t7 returns array-copy-out-t10 add-t11 returns-2)
+value-at-spec = tie.close (tie.spec row-of-requires add-t7 returns array-copy-out-t10 add-t11 returns-2)

@@ -1,0 +1,120 @@
+-- How far a run has come: each interval is read, taken and printed before the next. Assumes nothing.
+use Prim.Native.Nat.{ℕ, zero, suc, _+_, _-_, _*_, _≤_, _<_, min}
+use mathlib.Core.Path.{_≡_, refl, sym, ap, subst, _∙_}
+use mathlib.Core.List.{List, [], _∷_, _++_, append-nil}
+use native.Mathlib.Omega.{arith}
+use lib.ListN.{length, drop, length-drop, drop-of-length-le}
+use lib.Seq.{sets}
+use Rattle.interval.specs.declared.Interval.{Interval}
+use Rattle.engine.specs.Hours.{hourRefusal, hourAfter}
+use Rattle.engine.specs.declared.Hour.{Hour}
+use Rattle.text.specs.Numbers.{Line, lines}
+use Rattle.text.specs.Tables.{Reading, faulty, found}
+use Rattle.text.specs.Pages.{refusalText}
+use Rattle.text.proofs.LineLaws.{lines-some}
+use Rattle.parts.specs.Parts.{readInterval}
+use Rattle.parts.specs.Shown.{reading}
+use Rattle.page.proofs.PageLaws.{Putting, putting-start, putting-next, putting-done}
+use Rattle.run.specs.Run.{pageOf, intervals, hourText}
+use Rattle.run.proofs.CountLaws.{Uses, interval-using}
+use Rattle.run.proofs.RunLaws.{faulty-text, refused-text, accepted-text, none-text, accepts-few, accepts-counts}
+
+pub positive : (n : ℕ) → (n ≡ 0 → ⊥) → 0 < n
+positive zero h = absurd (h refl)
+positive (suc n) h = omega arith
+
+-- ---- what a part's answer says of the lines
+module _ {A : Type 0} (s : List ℕ) (a : A) (line next : ℕ) where
+  pub read-faulty : (fault : ℕ) (r : Reading A) → 0 < fault → reading s fault a line next ≡ r → r ≡ faulty fault
+  read-faulty zero r l e = absurd (omega (arith, l))
+  read-faulty (suc k) r l e = sym e
+
+  pub read-found : (fault : ℕ) (r : Reading A) → fault ≡ 0 → reading s fault a line next ≡ r → r ≡ found a line (lines (drop next s))
+  read-found zero r l e = sym e
+  read-found (suc k) r l e = absurd (omega (arith, l))
+
+-- a line is left before the text's end
+pub some-line : (s : List ℕ) (at : ℕ) → at < length s → 0 < length (lines (drop at s))
+some-line s at l =
+    let e = lines-some (drop at s) (λ z. omega (arith, l, length-drop at s, ap length z)) in
+    omega (arith, ap length e)
+
+-- ---- how far a run over text s has come: interval i is next
+pub record Going (s out whole now : List ℕ) (hour : Hour) (at line i p : ℕ) : Type 0 where
+  pub put : Putting out 0 whole now p (intervals (6 - i) i hour line (lines (drop at s)))
+  pub few : p + 163840 ≤ i * 163840
+  pub low : 1 ≤ i
+  pub high : i ≤ 5
+  pub count : hour .accepted + 1 ≡ i
+  pub left : line + length (lines (drop at s)) ≤ 65536
+
+pub going-start : (s out : List ℕ) (hour : Hour) (at line : ℕ) → hour .accepted ≡ 0 → line + length (lines (drop at s)) ≤ 65536
+    → Going s out (hourText hour line (lines (drop at s))) out hour at line 1 0
+going-start s out hour at line e h = record {
+  put = putting-start out 0 (hourText hour line (lines (drop at s)));
+  few = omega arith;
+  low = omega arith;
+  high = omega arith;
+  count = omega (arith, e);
+  left = h;
+}
+
+module _ {s out whole now : List ℕ} {hour : Hour} {at line i p : ℕ} (w : Going s out whole now hour at line i p) where
+  -- the text has no more lines
+  pub going-end : length s ≤ at → (now ≡ sets out 0 whole) × (p ≡ length whole)
+  going-end h =
+      let e : lines (drop at s) ≡ [] = ap lines (drop-of-length-le s h) in
+      let d = putting-done (w .put) (ap (intervals (6 - i) i hour line) e ∙ none-text (6 - i) i hour line) in
+      (d .0, omega (arith, d .1))
+
+  fuel : 6 - i ≡ suc (5 - i)
+  fuel = omega (arith, w .high)
+
+  -- the rest is put at once
+  ends : (t put : List ℕ) (r : ℕ) → intervals (suc (5 - i)) i hour line (lines (drop at s)) ≡ t → put ≡ sets now p t → r ≡ p + length t
+      → (put ≡ sets out 0 whole) × (r ≡ length whole)
+  ends t put r e f g =
+      let d = putting-done (putting-next (w .put) t [] put r (ap (λ (n : ℕ). intervals n i hour line (lines (drop at s))) fuel ∙ e ∙ sym (append-nil t)) f g) refl in
+      (d .0, omega (arith, d .1))
+
+  module _ (l : at < length s) where
+    -- a faulty line ends the run
+    pub going-faulty : (k : ℕ) (put : List ℕ) (r : ℕ) → readInterval line (lines (drop at s)) ≡ faulty k → put ≡ sets now p (refusalText 17 k) → r ≡ p + length (refusalText 17 k)
+        → (put ≡ sets out 0 whole) × (r ≡ length whole)
+    going-faulty k put r e = ends (refusalText 17 k) put r (faulty-text (5 - i) i hour line (lines (drop at s)) (some-line s at l) k e)
+
+    module _ (v : Interval) (m : ℕ) (rest : List Line) (e : readInterval line (lines (drop at s)) ≡ found v m rest) where
+      -- so does a refusal
+      pub going-refused : (k : ℕ) (put : List ℕ) (r : ℕ) → hourRefusal hour v ≡ k → 0 < k → put ≡ sets now p (refusalText k m) → r ≡ p + length (refusalText k m)
+          → (put ≡ sets out 0 whole) × (r ≡ length whole)
+      going-refused k put r g h =
+          ends (refusalText k m) put r (refused-text (5 - i) i hour line (lines (drop at s)) (some-line s at l) v m rest e k g h)
+
+      -- the lines are used up
+      pub left-after : m + length rest ≤ 65536
+      left-after = omega (arith, w .left, subst (Uses line (lines (drop at s))) e (interval-using line (lines (drop at s))))
+
+      pub going-few : hourRefusal hour v ≡ 0 → i ≤ 4
+      going-few g = omega (arith, w .count, accepts-few hour v g)
+
+  -- a faulty line's number
+  pub faulty-few : (k : ℕ) → readInterval line (lines (drop at s)) ≡ faulty k → k ≤ 65537
+  faulty-few k e = omega (arith, w .left, subst (Uses line (lines (drop at s))) e (interval-using line (lines (drop at s))))
+
+  -- an accepted interval's page is put, and the next is read
+  pub going-next : at < length s → (v : Interval) (m next : ℕ) → readInterval line (lines (drop at s)) ≡ found v m (lines (drop next s)) → hourRefusal hour v ≡ 0
+      → (after : Hour) (put : List ℕ) (q : ℕ) → after ≡ hourAfter hour v → put ≡ sets now p (pageOf i hour v) → q ≡ p + length (pageOf i hour v) → q ≤ p + 163840
+      → Going s out whole put after next m (i + 1) q
+  going-next l v m next e g after put q a b c d = record {
+    put =
+        subst (λ (h : Hour). Putting out 0 whole put q (intervals (6 - (i + 1)) (i + 1) h m (lines (drop next s)))) (sym a)
+        (subst (λ (j : ℕ). Putting out 0 whole put q (intervals (6 - j) j (hourAfter hour v) m (lines (drop next s)))) (let z : suc i ≡ i + 1 = omega arith in z)
+        (subst (λ (n : ℕ). Putting out 0 whole put q (intervals n (suc i) (hourAfter hour v) m (lines (drop next s)))) (let z : 5 - i ≡ 6 - suc i = omega arith in z)
+        (putting-next (w .put) (pageOf i hour v) (intervals (5 - i) (suc i) (hourAfter hour v) m (lines (drop next s))) put q
+        (ap (λ (n : ℕ). intervals n i hour line (lines (drop at s))) fuel ∙ accepted-text (5 - i) i hour line (lines (drop at s)) (some-line s at l) v m (lines (drop next s)) e g) b c)));
+    few = omega (arith, w .few, d);
+    low = omega arith;
+    high = omega (arith, going-few l v m (lines (drop next s)) e g);
+    count = omega (arith, ap (λ (h : Hour). h .accepted) a, accepts-counts hour v g, w .count);
+    left = left-after l v m (lines (drop next s)) e;
+  }

@@ -1,0 +1,6 @@
+-- Laws of the whole run.
+pub mod CountLaws
+pub mod RunLaws
+pub mod GoingLaws
+pub mod Meaning
+pub mod Examples

@@ -1,0 +1,52 @@
+-- What the run means, in paper 01's words. Assumes nothing.
+use Prim.Native.Nat.{ℕ, zero, suc, _+_, _≤_, _<_}
+use mathlib.Core.Path.{_≡_, refl, ap}
+use mathlib.Core.List.{List, [], _∷_, _++_}
+use mathlib.Core.Bool.{Bool, cond}
+use native.Mathlib.Omega.{arith}
+use borrow.Author.Tests.{lt-ltb, le-ltb}
+use lib.ListN.{length}
+use Rattle.engine.specs.Hours.{hourRefusal, hourAfter}
+use Rattle.engine.specs.declared.Hour.{Hour}
+use Rattle.interval.specs.declared.Interval.{Interval}
+use Rattle.text.specs.Numbers.{Line, bytes, lines}
+use Rattle.text.specs.Tables.{Reading, faulty, found}
+use Rattle.text.specs.Pages.{digits, decimal, lineText, refusalText}
+use Rattle.parts.specs.Parts.{readInterval}
+use Rattle.run.specs.Run.{part, answer, pageOf, intervals, partsText, output}
+use Rattle.run.proofs.RunLaws.{accepts-few, accepts-counts}
+
+-- "18 is tested first": whatever else is wrong with a text of over 65,536 bytes
+pub longer-refused : (text : List ℕ) → 65536 < length text → output text ≡ bytes "refusal line\n18 1\n"
+unfolding output digits decimal lineText refusalText
+longer-refused text h = ap (λ (b : Bool). cond b (refusalText 18 1) (partsText (lines text))) (lt-ltb 65536 (length text) h)
+
+-- a text of 65,536 bytes is read
+pub others-read : (text : List ℕ) → length text ≤ 65536 → output text ≡ partsText (lines text)
+unfolding output
+others-read text h = ap (λ (b : Bool). cond b (refusalText 18 1) (partsText (lines text))) (le-ltb 65536 (length text) h)
+
+-- one part more or less
+step : (k f i : ℕ) (h : Hour) (n : ℕ) (ls : List Line)
+    → ((v : Interval) (m : ℕ) (rest : List Line) → hourRefusal h v ≡ 0 → intervals f (suc i) (hourAfter h v) m rest ≡ intervals k (suc i) (hourAfter h v) m rest)
+    → intervals (suc f) i h n ls ≡ intervals (suc k) i h n ls
+unfolding intervals
+step k f i h n [] same = refl
+step k f i h n (l ∷ ls) same = go (readInterval n (l ∷ ls))
+  where
+    further : (v : Interval) (m : ℕ) (rest : List Line) (r : ℕ) → hourRefusal h v ≡ r
+        → answer m r (pageOf i h v ++ intervals f (suc i) (hourAfter h v) m rest) ≡ answer m r (pageOf i h v ++ intervals k (suc i) (hourAfter h v) m rest)
+    further v m rest (suc r) g = refl
+    further v m rest zero g = ap (λ (t : List ℕ). pageOf i h v ++ t) (same v m rest g)
+
+    go : (r : Reading Interval)
+        → part r (λ v m rest. answer m (hourRefusal h v) (pageOf i h v ++ intervals f (suc i) (hourAfter h v) m rest))
+        ≡ part r (λ v m rest. answer m (hourRefusal h v) (pageOf i h v ++ intervals k (suc i) (hourAfter h v) m rest))
+    go (faulty line) = refl
+    go (found v m rest) = further v m rest (hourRefusal h v) refl
+
+-- "four intervals": an hour that accepts k more refuses the one after them, so that room for more parts would change nothing
+pub five-suffice : (k f i : ℕ) (h : Hour) (n : ℕ) (ls : List Line) → h .accepted + k ≡ 4 → suc k ≤ f → intervals f i h n ls ≡ intervals (suc k) i h n ls
+five-suffice k zero i h n ls e l = absurd (omega (arith, l))
+five-suffice zero (suc f) i h n ls e l = step 0 f i h n ls (λ v m rest g. absurd (omega (arith, e, accepts-few h v g)))
+five-suffice (suc k) (suc f) i h n ls e l = step (suc k) f i h n ls (λ v m rest g. five-suffice k f (suc i) (hourAfter h v) m rest (omega (arith, e, accepts-counts h v g)) (omega (arith, l)))

@@ -1,0 +1,193 @@
+-- `run::put_intervals` meets its contract. Assumes nothing.
+use Prim.Native.Nat.{ℕ, _+_, _-_, _≤_, _<_, min}
+use mathlib.Core.Path.{_≡_, sym, ap, ap₂, _∙_}
+use mathlib.Core.List.{List}
+use native.Mathlib.Omega.{arith}
+use borrow.Author.Needs.{needs}
+use lib.ListN.{length, drop}
+use lib.Seq.{sets, length-sets}
+use Rattle.text.specs.Numbers.{Line, lines}
+use Rattle.text.specs.Tables.{Reading, faulty, found}
+use Rattle.curve.specs.Refusals.{outcomeNumber}
+use Rattle.interval.specs.declared.Interval.{Interval}
+use Rattle.path.specs.declared.Verdict.{Verdict}
+use Rattle.engine.specs.Hours.{hourRefusal, hourAfter, hourVerdicts}
+use Rattle.engine.specs.declared.Hour.{Hour}
+use Rattle.text.specs.Pages.{refusalText}
+use Rattle.parts.specs.Parts.{readInterval}
+use Rattle.parts.specs.Shown.{reading}
+use Rattle.curve.proofs.RefusalLaws.{refused-number}
+use Rattle.page.specs.Pages.{pageText}
+use Rattle.run.specs.Run.{pageOf, hourText}
+use Rattle.run.proofs.RunLaws.{number-few}
+use Rattle.run.proofs.GoingLaws.{Going, positive, read-faulty, read-found, going-start, going-end, going-faulty, going-refused, going-few, faulty-few, left-after, going-next}
+use Rattle.run.proofs.put_intervals.Statement.{statement}
+use Rattle.run.proofs.put_intervals.Tie as tie
+
+abbrev Inv-loop : tie.InvT-loop
+Inv-loop text start lines-before out₀ hour₀ at₀ line₀ i₀ p₀ out hour at line i p =
+    Going text out₀ (hourText hour₀ line₀ (lines (drop at₀ text))) out hour at line i p
+
+abbrev μ-loop : tie.MeasureT-loop
+μ-loop text start lines-before out₀ hour₀ at₀ line₀ i₀ p₀ out hour at line i p = 6 - i
+
+-- the lines at the loop's offset
+abbrev ahead : tie.At-loop Inv-loop μ-loop → List Line
+ahead l = lines (drop (l .loop .at) (l .before .before .before .args .text .now))
+
+-- what is read of them
+read : (r : tie.After-interval-at Inv-loop μ-loop)
+    → reading (r .before .before .before .before .before .args .text .now) (r .interval-at .result .fault) (r .interval-at .result .interval) (r .interval-at .result .line) (r .interval-at .result .next)
+    ≡ readInterval (r .before .before .loop .line) (ahead (r .before .before))
+read r =
+    let l = r .before .before in
+    let e : min (l .loop .line) 65536 ≡ l .loop .line = omega (arith, l .loop .inv .left) in
+    r .interval-at .ensures .0 ∙ ap (λ (n : ℕ). readInterval n (ahead l)) e
+
+is-faulty : (t : tie.Then1 Inv-loop μ-loop) → readInterval (t .before .before .before .loop .line) (ahead (t .before .before .before)) ≡ faulty (t .before .interval-at .result .fault)
+is-faulty t =
+    let r = t .before .interval-at .result in
+    read-faulty (t .before .before .before .before .before .before .args .text .now) (r .interval) (r .line) (r .next) (r .fault) _ (positive (r .fault) (t .if1 .taken)) (read (t .before))
+
+is-found : (e : tie.Else1 Inv-loop μ-loop)
+    → readInterval (e .before .before .before .loop .line) (ahead (e .before .before .before))
+    ≡ found (e .before .interval-at .result .interval) (e .before .interval-at .result .line) (lines (drop (e .before .interval-at .result .next) (e .before .before .before .before .before .before .args .text .now)))
+is-found e =
+    let r = e .before .interval-at .result in
+    read-found (e .before .before .before .before .before .before .args .text .now) (r .interval) (r .line) (r .next) (r .fault) _ (e .if1 .left) (read (e .before))
+
+-- the number of a refusal
+refusal : (n : tie.After-number Inv-loop μ-loop)
+    → hourRefusal (n .before .before .before .before .before .before .before .before .before .before .loop .hour) (n .before .before .before .before .before .before .before .before .interval-at .result .interval) ≡ n .number .result
+refusal n =
+    sym (n .before .before .before .before .before .interval .ensures .0) ∙ ap outcomeNumber (n .before .before .before .outcome .given .1) ∙ sym (n .number .ensures)
+
+-- an accepted interval
+none : (t : tie.After-enum-told Inv-loop μ-loop)
+    → hourRefusal (t .before .before .before .before .before .before .before .loop .hour) (t .before .before .before .before .before .interval-at .result .interval) ≡ 0
+none t = sym (t .before .before .interval .ensures .0) ∙ ap outcomeNumber (t .enum-told .given .1)
+
+loop-holds : tie.Need-loop-holds Inv-loop μ-loop
+loop-holds c =
+    let s = c .before .before in
+    going-start (s .args .text .now) (s .args .out .now) (s .args .fresh) (s .args .start) (s .args .lines-before) (s .pre .0) (s .pre .1 .1)
+
+interval-at-requires : tie.Need-interval-at-requires Inv-loop μ-loop
+interval-at-requires c κs = search needs
+
+put-refusal-requires : tie.Need-put-refusal-requires Inv-loop μ-loop
+put-refusal-requires c κs =
+    let l = c .before .before .before .before in
+    let w = l .loop .inv in
+    (omega (arith, w .few, w .high, w .put .long, l .before .before .before .pre .1 .0), (omega arith, omega (arith, faulty-few w _ (is-faulty (c .before)))))
+
+returns : tie.Need-returns Inv-loop μ-loop
+returns c =
+    let q = c .before .before in
+    let t = q .before .before in
+    let l = t .before .before .before in
+    going-faulty (l .loop .inv) (t .before .before .loop-test .taken) (t .before .interval-at .result .fault) (q .put-refusal .last .0) (q .put-refusal .result) (is-faulty t) (q .put-refusal .ensures .0) (q .put-refusal .ensures .1)
+
+same-length : tie.Need-same-length Inv-loop μ-loop
+same-length c =
+    let q = c .before .before in
+    let t = q .before .before in
+    let l = t .before .before .before in
+    ap length (q .put-refusal .ensures .0) ∙ length-sets (l .loop .out) (l .loop .p) (refusalText 17 (t .before .interval-at .result .fault)) ∙ l .loop .inv .put .long
+
+interval-requires : tie.Need-interval-requires Inv-loop μ-loop
+interval-requires c κs = search needs
+
+enum-known-outcome : tie.Need-enum-known-outcome Inv-loop μ-loop
+enum-known-outcome c = search needs
+
+number-requires : tie.Need-number-requires Inv-loop μ-loop
+number-requires c κs = search needs
+
+put-refusal-requires-2 : tie.Need-put-refusal-requires-2 Inv-loop μ-loop
+put-refusal-requires-2 c κs =
+    let e = c .before .before .before .before .before .before .before in
+    let l = e .before .before .before in
+    let w = l .loop .inv in (
+      omega (arith, w .few, w .high, w .put .long, l .before .before .before .pre .1 .0),
+      (omega (arith, c .number .ensures, number-few (c .before .before .before .outcome .given .0 .0)), omega (arith, left-after w (e .before .before .loop-test .taken) _ _ _ (is-found e))),
+    )
+
+returns-2 : tie.Need-returns-2 Inv-loop μ-loop
+returns-2 c =
+    let q = c .before .before in
+    let n = q .before in
+    let e = n .before .before .before .before .before .before .before in
+    let l = e .before .before .before in
+    going-refused (l .loop .inv) (e .before .before .loop-test .taken) _ _ _ (is-found e) (n .number .result) (q .put-refusal2 .last .0) (q .put-refusal2 .result) (refusal n)
+    (omega (arith, n .number .ensures, refused-number (n .before .before .before .outcome .given .0 .0))) (q .put-refusal2 .ensures .0) (q .put-refusal2 .ensures .1)
+
+same-length-2 : tie.Need-same-length-2 Inv-loop μ-loop
+same-length-2 c =
+    let q = c .before .before in
+    let n = q .before in
+    let e = n .before .before .before .before .before .before .before in
+    let l = e .before .before .before in
+    ap length (q .put-refusal2 .ensures .0) ∙ length-sets (l .loop .out) (l .loop .p) (refusalText (n .number .result) (e .before .interval-at .result .line)) ∙ l .loop .inv .put .long
+
+enum-told : tie.Need-enum-told Inv-loop μ-loop
+enum-told c = search needs
+
+put-page-requires : tie.Need-put-page-requires Inv-loop μ-loop
+put-page-requires c κs =
+    let t = c .before .before .before in
+    let e = t .before .before .before .before in
+    let l = e .before .before .before in
+    let w = l .loop .inv in
+    omega (arith, w .few, w .put .long, l .before .before .before .pre .1 .0, going-few w (e .before .before .loop-test .taken) _ _ _ (is-found e) (none t))
+
+add-i : tie.Need-add-i Inv-loop μ-loop
+add-i c = let w = c .before .before .before .before .before .before .before .before .before .before .before .before .before .loop .inv in omega (arith, w .high)
+
+loop-less : tie.Need-loop-less Inv-loop μ-loop
+loop-less c = let w = c .before .before .before .before .before .before .before .before .before .before .before .before .before .loop .inv in omega (arith, w .high)
+
+loop-again : tie.Need-loop-again Inv-loop μ-loop
+loop-again c =
+    let g = c .before .before in
+    let t = g .before .before .before .before in
+    let a = t .before .before in
+    let e = a .before .before in
+    let l = e .before .before .before in
+    let v = e .before .interval-at .result .interval in
+    let same : pageText (l .loop .i) (a .interval .result .hour) (v .constraints) (a .interval .result .verdicts) ≡ pageOf (l .loop .i) (l .loop .hour) v
+    = ap₂ (λ (h : Hour) (vs : List Verdict). pageText (l .loop .i) h (v .constraints) vs) (a .interval .ensures .1 .0) (a .interval .ensures .1 .1) in
+    going-next (l .loop .inv) (e .before .before .loop-test .taken) v (e .before .interval-at .result .line) (e .before .interval-at .result .next) (is-found e) (none t)
+    (a .interval .result .hour) (g .put-page .last .0) (g .put-page .result) (a .interval .ensures .1 .0)
+    (g .put-page .ensures .0 ∙ ap (sets (l .loop .out) (l .loop .p)) same) (g .put-page .ensures .1 .0 ∙ ap (λ (x : List ℕ). l .loop .p + length x) same) (g .put-page .ensures .1 .1)
+
+same-length-3 : tie.Need-same-length-3 Inv-loop μ-loop
+same-length-3 c = c .before .loop .inv .put .long
+
+returns-3 : tie.Need-returns-3 Inv-loop μ-loop
+returns-3 c = going-end (c .before .loop .inv) (omega (arith, c .loop-test .left))
+
+pub put-intervals-spec : {M : Type 1} → statement M
+put-intervals-spec =
+    tie.close
+    (tie.spec
+    Inv-loop
+    μ-loop
+    loop-holds
+    interval-at-requires
+    put-refusal-requires
+    same-length
+    returns
+    interval-requires
+    enum-known-outcome
+    number-requires
+    put-refusal-requires-2
+    same-length-2
+    returns-2
+    enum-told
+    put-page-requires
+    add-i
+    loop-less
+    loop-again
+    same-length-3
+    returns-3)

@@ -1,0 +1,157 @@
+-- `run::put_parts` meets its contract. Assumes nothing.
+use Prim.Native.Nat.{ℕ, _+_, _≤_}
+use mathlib.Core.Path.{_≡_, sym, ap, _∙_}
+use mathlib.Core.List.{List}
+use native.Mathlib.Omega.{arith}
+use borrow.Author.Needs.{needs}
+use lib.ListN.{length, drop}
+use lib.Seq.{sets, length-sets}
+use Rattle.curve.specs.Refusals.{outcomeNumber}
+use Rattle.curve.proofs.RefusalLaws.{refused-number}
+use Rattle.engine.specs.Openings.{openingRefusal, openedHour}
+use Rattle.engine.specs.declared.Hour.{Hour}
+use Rattle.text.specs.Numbers.{Line, lines}
+use Rattle.text.specs.Tables.{faulty, found}
+use Rattle.text.specs.Pages.{refusalText}
+use Rattle.text.proofs.LineLaws.{lines-few}
+use Rattle.parts.specs.Parts.{readOpening}
+use Rattle.run.specs.Run.{hourText, partsText}
+use Rattle.run.proofs.RunLaws.{number-few, parts-faulty, parts-faulty-few, parts-refused, parts-accepted, parts-left, opened-fresh}
+use Rattle.run.proofs.GoingLaws.{positive, read-faulty, read-found}
+use Rattle.run.proofs.put_parts.Statement.{statement}
+use Rattle.run.proofs.put_parts.Tie as tie
+
+abbrev text : tie.After-opening-at → List ℕ
+text r = r .before .before .before .args .text .now
+
+is-faulty : (t : tie.Then1) → readOpening 0 (lines (text (t .before))) ≡ faulty (t .before .opening-at .result .fault)
+is-faulty t =
+    let r = t .before .opening-at .result in
+    read-faulty (text (t .before)) (r .opening) (r .line) (r .next) (r .fault) _ (positive (r .fault) (t .if1 .taken)) (t .before .opening-at .ensures .0)
+
+is-found : (e : tie.Else1) → readOpening 0 (lines (text (e .before))) ≡ found (e .before .opening-at .result .opening) (e .before .opening-at .result .line) (lines (drop (e .before .opening-at .result .next) (text (e .before))))
+is-found e =
+    let r = e .before .opening-at .result in
+    read-found (text (e .before)) (r .opening) (r .line) (r .next) (r .fault) _ (e .if1 .left) (e .before .opening-at .ensures .0)
+
+-- the lines after the opening
+left : (e : tie.Else1) → e .before .opening-at .result .line + length (lines (drop (e .before .opening-at .result .next) (text (e .before)))) ≤ 65536
+left e = omega (arith, parts-left _ _ _ _ (is-found e), lines-few (text (e .before)), e .before .before .before .before .pre .1)
+
+-- what was put is the text t
+puts : (out put : List ℕ) (t whole : List ℕ) (r : ℕ) → whole ≡ t → put ≡ sets out 0 t → r ≡ 0 + length t → (put ≡ sets out 0 whole) × (r ≡ length whole)
+puts out put t whole r e f g = (f ∙ ap (sets out 0) (sym e), omega (arith, g, ap length e))
+
+-- the number of a refusal
+refusal : (n : tie.After-number) → openingRefusal (n .before .before .before .before .before .before .before .opening-at .result .opening) ≡ n .number .result
+refusal n =
+    sym (n .before .before .before .before .before .open .ensures .0) ∙ ap outcomeNumber (n .before .before .before .outcome .given .1) ∙ sym (n .number .ensures)
+
+-- an accepted opening
+none : (t : tie.After-enum-told) → openingRefusal (t .before .before .before .before .opening-at .result .opening) ≡ 0
+none t = sym (t .before .before .open .ensures .0) ∙ ap outcomeNumber (t .enum-told .given .1)
+
+opening-at-requires : tie.Need-opening-at-requires
+opening-at-requires c κs = search needs
+
+put-refusal-requires : tie.Need-put-refusal-requires
+put-refusal-requires c κs =
+    let t = c .before in
+    let s = t .before .before .before .before in
+    (omega (arith, s .pre .0), (omega arith, omega (arith, parts-faulty-few _ _ (is-faulty t), lines-few (text (t .before)), s .pre .1)))
+
+same-length : tie.Need-same-length
+same-length c =
+    let q = c .before .before in
+    let t = q .before .before in
+    ap length (q .put-refusal .ensures .0) ∙ length-sets (t .before .before .before .before .args .out .now) 0 (refusalText 17 (t .before .opening-at .result .fault))
+
+returns : tie.Need-returns
+returns c =
+    let q = c .before .before in
+    let t = q .before .before in
+    puts (t .before .before .before .before .args .out .now) (q .put-refusal .last .0) (refusalText 17 (t .before .opening-at .result .fault)) _ (q .put-refusal .result) (parts-faulty _ _ (is-faulty t)) (q .put-refusal .ensures .0) (q .put-refusal .ensures .1)
+
+open-requires : tie.Need-open-requires
+open-requires c κs = search needs
+
+enum-known-outcome : tie.Need-enum-known-outcome
+enum-known-outcome c = search needs
+
+number-requires : tie.Need-number-requires
+number-requires c κs = search needs
+
+abbrev opened : tie.After-number → tie.Else1
+opened n = n .before .before .before .before .before .before
+
+put-refusal-requires-2 : tie.Need-put-refusal-requires-2
+put-refusal-requires-2 c κs =
+    let e = opened c in
+    (omega (arith, e .before .before .before .before .pre .0), (omega (arith, c .number .ensures, number-few (c .before .before .before .outcome .given .0 .0)), omega (arith, left e)))
+
+same-length-2 : tie.Need-same-length-2
+same-length-2 c =
+    let q = c .before .before in
+    let e = opened (q .before) in
+    ap length (q .put-refusal2 .ensures .0) ∙ length-sets (e .before .before .before .before .args .out .now) 0 (refusalText (q .before .number .result) (e .before .opening-at .result .line))
+
+returns-2 : tie.Need-returns-2
+returns-2 c =
+    let q = c .before .before in
+    let n = q .before in
+    let e = opened n in
+    puts (e .before .before .before .before .args .out .now) (q .put-refusal2 .last .0) (refusalText (n .number .result) (e .before .opening-at .result .line)) _ (q .put-refusal2 .result)
+    (parts-refused _ _ _ _ (is-found e) (n .number .result) (refusal n) (omega (arith, n .number .ensures, refused-number (n .before .before .before .outcome .given .0 .0)))) (q .put-refusal2 .ensures .0) (q .put-refusal2 .ensures .1)
+
+enum-told : tie.Need-enum-told
+enum-told c = search needs
+
+abbrev begun : tie.After-enum-told → tie.Else1
+begun t = t .before .before .before
+
+put-intervals-requires : tie.Need-put-intervals-requires
+put-intervals-requires c κs =
+    let t = c .before .before in
+    let e = begun t in
+    (ap (λ (h : Hour). h .accepted) (t .before .before .open .ensures .1) ∙ opened-fresh (e .before .opening-at .result .opening), (e .before .before .before .before .pre .0, left e))
+
+-- what the intervals of the opened hour print
+abbrev rest : tie.After-enum-told → List ℕ
+rest t =
+    let r = begun t .before .opening-at .result in
+    hourText (t .before .before .open .result .hour) (r .line) (lines (drop (r .next) (text (begun t .before))))
+
+same-length-3 : tie.Need-same-length-3
+same-length-3 c =
+    let q = c .before .before in
+    let t = q .before .before .before in
+    ap length (q .put-intervals .ensures .0) ∙ length-sets (begun t .before .before .before .before .args .out .now) 0 (rest t)
+
+returns-3 : tie.Need-returns-3
+returns-3 c =
+    let q = c .before .before in
+    let t = q .before .before .before in
+    let e = begun t in
+    let r = e .before .opening-at .result in
+    puts (e .before .before .before .before .args .out .now) (q .put-intervals .last .1 .1 .1 .1 .0) (rest t) _ (q .put-intervals .result)
+    (parts-accepted _ _ _ _ (is-found e) (none t) ∙ ap (λ (h : Hour). hourText h (r .line) (lines (drop (r .next) (text (e .before))))) (sym (t .before .before .open .ensures .1)))
+    (q .put-intervals .ensures .0) (omega (arith, q .put-intervals .ensures .1))
+
+pub put-parts-spec : {M : Type 1} → statement M
+put-parts-spec =
+    tie.close
+    (tie.spec
+    opening-at-requires
+    put-refusal-requires
+    same-length
+    returns
+    open-requires
+    enum-known-outcome
+    number-requires
+    put-refusal-requires-2
+    same-length-2
+    returns-2
+    enum-told
+    put-intervals-requires
+    same-length-3
+    returns-3)

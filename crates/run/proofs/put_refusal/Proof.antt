@@ -1,0 +1,68 @@
+-- `run::put_refusal` meets its contract. Assumes nothing.
+use Prim.Native.Nat.{ℕ, _+_, _≤_}
+use mathlib.Core.Path.{_≡_, ap, _∙_}
+use mathlib.Core.List.{List}
+use native.Mathlib.Omega.{arith}
+use lib.ListN.{length}
+use lib.Seq.{sets}
+use Rattle.page.specs.Pages.{printable, refusalRoom}
+use Rattle.text.specs.Pages.{refusalText}
+use Rattle.run.proofs.RunLaws.{put-to, put-full}
+use borrow.Author.Needs.{needs}
+use Rattle.run.proofs.put_refusal.Statement.{statement}
+use Rattle.run.proofs.put_refusal.Tie as tie
+use Rattle.run.proofs.put_refusal.Reads as reads
+use Rattle.run.proofs.put_refusal.Lts as lts
+use Rattle.page.proofs.print_refusal.Reads as print-refusal-reads
+
+-- src/lib.rt:31:11
+-- small numbers are printed as they are
+shown : (n l : ℕ) → n ≤ 18 → l ≤ 200000 → refusalText (printable n) (printable l) ≡ refusalText n l
+shown n l h k = ap (λ (x : ℕ). refusalText x (printable l)) (let e : printable n ≡ n = omega arith in e) ∙ ap (refusalText n) (let e : printable l ≡ l = omega arith in e)
+
+print-refusal-requires : tie.Need-print-refusal-requires
+print-refusal-requires c κs = search needs
+
+-- src/lib.rt:32:21
+enum-known-next : tie.Need-enum-known-next
+enum-known-next c = search needs
+
+-- src/lib.rt:33:26
+enum-told : tie.Need-enum-told
+enum-told c = search needs
+
+-- src/lib.rt:27:1
+same-length : tie.Need-same-length
+same-length c = search needs
+
+-- src/lib.rt:27:1
+returns : tie.Need-returns
+returns c =
+    let p = c .before .before .before .before .before in
+    let a = p .before .before .before .args in
+    let e : refusalText (printable (a .number)) (printable (a .line)) ≡ refusalText (a .number) (a .line) = shown (a .number) (a .line) (p .before .before .before .pre .1 .0) (p .before .before .before .pre .1 .1) in
+    let g = put-to refusalRoom (a .out .now) (a .at) (refusalText (printable (a .number)) (printable (a .line))) (p .print-refusal .last .0) (p .print-refusal .result) (p .before .before .before .pre .0) (p .print-refusal .ensures .0) (p .print-refusal .ensures .1) (c .before .next .given .0 .0) (c .before .next .given .1) in
+    (g .0 ∙ ap (sets (a .out .now) (a .at)) e, g .1 ∙ ap (λ (t : List ℕ). a .at + length t) e)
+
+-- src/lib.rt:27:1
+same-length-2 : tie.Need-same-length-2
+same-length-2 c = search needs
+
+-- src/lib.rt:27:1
+returns-2 : tie.Need-returns-2
+returns-2 c =
+    let p = c .before .before .before .before in
+    let a = p .before .before .before .args in
+    put-full refusalRoom (a .out .now) (a .at) (refusalText (printable (a .number)) (printable (a .line))) (p .print-refusal .last .0) (p .print-refusal .result) (p .before .before .before .pre .0) (p .print-refusal .ensures .0) (p .print-refusal .ensures .1) (c .enum-told .given .1)
+
+pub put-refusal-spec : {M : Type 1} → statement M
+put-refusal-spec =
+    tie.close
+    (tie.spec
+    print-refusal-requires
+    enum-known-next
+    enum-told
+    same-length
+    returns
+    same-length-2
+    returns-2)

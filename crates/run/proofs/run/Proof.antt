@@ -1,0 +1,60 @@
+-- `run::run` meets its contract. Assumes nothing.
+use mathlib.Core.Path.{ap, _∙_}
+use native.Mathlib.Omega.{arith}
+use lib.ListN.{length}
+use lib.Seq.{length-sets}
+use Rattle.text.specs.Numbers.{lines}
+use Rattle.text.specs.Pages.{refusalText}
+use Rattle.run.specs.Run.{partsText}
+use Rattle.run.proofs.RunLaws.{too-small, too-long, ran-parts}
+use Rattle.run.proofs.run.Statement.{statement}
+use Rattle.run.proofs.run.Tie as tie
+
+returns : tie.Need-returns
+returns c =
+    let s = c .before .before .before in
+    too-small (s .args .out .now) (s .args .text .now) (c .if1 .taken)
+
+put-refusal-requires : tie.Need-put-refusal-requires
+put-refusal-requires c κs = (omega (arith, c .before .before .if1 .left), (omega arith, omega arith))
+
+same-length : tie.Need-same-length
+same-length c =
+    let q = c .before .before in
+    let s = q .before .before .before .before .before .before in
+    ap length (q .put-refusal .ensures .0) ∙ length-sets (s .args .out .now) 0 (refusalText 18 1)
+
+returns-2 : tie.Need-returns-2
+returns-2 c =
+    let q = c .before .before in
+    let e = q .before .before .before in
+    let s = e .before .before .before in
+    too-long (s .args .out .now) (s .args .text .now) (e .if1 .left) (q .before .before .if2 .taken) (q .put-refusal .last .0) (q .put-refusal .result) (q .put-refusal .ensures .0) (q .put-refusal .ensures .1)
+
+put-parts-requires : tie.Need-put-parts-requires
+put-parts-requires c κs = (c .before .before .if1 .left, c .before .if2 .left)
+
+same-length-2 : tie.Need-same-length-2
+same-length-2 c =
+    let q = c .before .before in
+    let s = q .before .before .before .before .before .before in
+    ap length (q .put-parts .ensures .0) ∙ length-sets (s .args .out .now) 0 (partsText (lines (s .args .text .now)))
+
+returns-3 : tie.Need-returns-3
+returns-3 c =
+    let q = c .before .before in
+    let e = q .before .before .before in
+    let s = e .before .before .before in
+    ran-parts (s .args .out .now) (s .args .text .now) (e .if1 .left) (q .before .before .if2 .left) (q .put-parts .last .1 .0) (q .put-parts .result) (q .put-parts .ensures .0) (q .put-parts .ensures .1)
+
+pub run-spec : {M : Type 1} → statement M
+run-spec =
+    tie.close
+    (tie.spec
+    returns
+    put-refusal-requires
+    same-length
+    returns-2
+    put-parts-requires
+    same-length-2
+    returns-3)

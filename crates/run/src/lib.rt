@@ -1,0 +1,132 @@
+// The whole run: a text in, what is printed out (paper 01, Text). The contracts cite specs/Run.
+use curve::Outcome;
+use engine::Hour;
+use interval::Interval;
+use openings::opening_at;
+use parts::intervals::interval_at;
+use path::Verdict;
+use text::pages::Printed;
+ghost use mathlib.Core.Path.{_≡_};
+ghost use Prim.Native.Nat.{_+_, _≤_, _<_};
+ghost use lib.ListN.{length, drop};
+ghost use lib.Seq.{sets};
+ghost use Rattle.text.specs.Numbers.{lines};
+ghost use Rattle.text.specs.Pages.{refusalText};
+ghost use Rattle.page.specs.Pages.{pageText};
+ghost use Rattle.run.specs.Run.{hourText, partsText, output, ranWithin, ranTo};
+
+// How many bytes were printed, or that the lent page has less room than ROOM.
+pub enum Ran {
+    Printed(usize),
+    TooSmall,
+}
+
+// Room for what any text prints: four pages and the lines of a refusal.
+pub const ROOM: usize = 655_424;
+
+// A longer text is refused.
+pub const MAX_TEXT: usize = 65_536;
+
+// Puts the lines of a refusal at an offset, and answers the offset after them.
+fn put_refusal(out: &mut [u8], at: usize, number: u64, line: usize) -> usize
+    requires { ⌜ (at + 64 ≤ length (now out)) × ((number ≤ 18) × (line ≤ 200000)) ⌝ }
+    ensures { λ r. ⌜ (now (out .exit) ≡ sets (now (out .entry)) at (refusalText number line)) × (r ≡ at + length (refusalText number line)) ⌝ }
+{
+    match page::print_refusal(out, at, number, line as u64) {
+        Printed::To(next) => next,
+        Printed::Full => at,
+    }
+}
+
+// Puts the page of an interval at an offset, and answers the offset after it.
+fn put_page(
+    out: &mut [u8],
+    at: usize,
+    i: u64,
+    hour: Hour,
+    constraints: usize,
+    verdicts: [Verdict; Interval::MAX_CONSTRAINTS],
+) -> usize
+    requires { ⌜ at + 163840 ≤ length (now out) ⌝ }
+    ensures { λ r. ⌜ (now (out .exit) ≡ sets (now (out .entry)) at (pageText i hour constraints verdicts)) × ((r ≡ at + length (pageText i hour constraints verdicts)) × (r ≤ at + 163840)) ⌝ }
+{
+    match page::print_page(out, at, i, hour, constraints, verdicts) {
+        Printed::To(next) => next,
+        Printed::Full => at,
+    }
+}
+
+// Puts what the intervals of a fresh hour print, from an offset of the text before which `line` lines stand: each is read, taken and printed before the next.
+fn put_intervals(
+    text: &[u8],
+    start: usize,
+    lines_before: usize,
+    fresh: Hour,
+    out: &mut [u8],
+) -> usize
+    requires fresh { ⌜ fresh .accepted ≡ 0 ⌝ }
+    requires room { ⌜ 655424 ≤ length (now out) ⌝ }
+    requires text { ⌜ «lines_before» + length (lines (drop start (now text))) ≤ 65536 ⌝ }
+    ensures { λ r. ⌜ (now (out .exit) ≡ sets (now (out .entry)) 0 (hourText fresh «lines_before» (lines (drop start (now (text .entry)))))) × (r ≡ length (hourText fresh «lines_before» (lines (drop start (now (text .entry)))))) ⌝ }
+{
+    let mut hour = fresh;
+    let mut at = start;
+    let mut line = lines_before;
+    let mut i: u64 = 1;
+    let mut p: usize = 0;
+    while at < text.len() {
+        let read = interval_at(text, at, line);
+        let fault = read.fault;
+        if fault != 0 {
+            return put_refusal(out, p, 17, fault);
+        }
+        let v = read.interval;
+        let answer = hour.interval(v);
+        let outcome = answer.outcome;
+        if let Outcome::Refused(refusal) = outcome {
+            return put_refusal(out, p, refusal.number(), read.line);
+        }
+        let next = answer.hour;
+        let verdicts = answer.verdicts;
+        p = put_page(out, p, i, next, v.constraints, verdicts);
+        hour = next;
+        at = read.next;
+        line = read.line;
+        i += 1;
+    }
+    p
+}
+
+// Puts what the parts of a text print.
+fn put_parts(text: &[u8], out: &mut [u8]) -> usize
+    requires room { ⌜ 655424 ≤ length (now out) ⌝ }
+    requires text { ⌜ length (now text) ≤ 65536 ⌝ }
+    ensures { λ r. ⌜ (now (out .exit) ≡ sets (now (out .entry)) 0 (partsText (lines (now (text .entry))))) × (r ≡ length (partsText (lines (now (text .entry))))) ⌝ }
+{
+    let read = opening_at(text, 0, 0);
+    let fault = read.fault;
+    if fault != 0 {
+        return put_refusal(out, 0, 17, fault);
+    }
+    let opened = Hour::open(read.opening);
+    let outcome = opened.outcome;
+    if let Outcome::Refused(refusal) = outcome {
+        return put_refusal(out, 0, refusal.number(), read.line);
+    }
+    let hour = opened.hour;
+    put_intervals(text, read.next, read.line, hour, out)
+}
+
+// Runs a text: prints into the lent page what paper 01 says of it, from the page's first byte on, and answers how many bytes that took.
+pub fn run(text: &[u8], out: &mut [u8]) -> Ran
+    ensures buffer { λ r. ⌜ now (out .exit) ≡ ranWithin (now (out .entry)) (output (now (text .entry))) ⌝ }
+    ensures count { λ r. ⌜ r ≡ ranTo (now (out .entry)) (output (now (text .entry))) ⌝ }
+{
+    if out.len() < ROOM {
+        return Ran::TooSmall;
+    }
+    if MAX_TEXT < text.len() {
+        return Ran::Printed(put_refusal(out, 0, 18, 1));
+    }
+    Ran::Printed(put_parts(text, out))
+}
