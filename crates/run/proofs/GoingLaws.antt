@@ -23,6 +23,10 @@ pub positive : (n : ℕ) → (n ≡ 0 → ⊥) → 0 < n
 positive zero h = absurd (h refl)
 positive (suc n) h = omega arith
 
+-- a text that was put, and the room that it took
+pub within : {A B C : Type 0} → A × B → C → A × (B × C)
+within e h = (e .0, (e .1, h))
+
 -- ---- what a part's answer says of the lines
 module _ {A : Type 0} (s : List ℕ) (a : A) (line next : ℕ) where
   pub read-faulty : (fault : ℕ) (r : Reading A) → 0 < fault → reading s fault a line next ≡ r → r ≡ faulty fault
@@ -96,6 +100,10 @@ module _ {s out whole now : List ℕ} {hour : Hour} {at line i p : ℕ} (w : Goi
 
       pub going-few : hourRefusal hour v ≡ 0 → i ≤ 4
       going-few g = omega (arith, w .count, accepts-few hour v g)
+
+  -- a refusal fits after four pages
+  pub refused-room : {r : ℕ} → r ≤ p + 64 → r ≤ 655424
+  refused-room h = omega (arith, h, w .few, w .high)
 
   -- a faulty line's number
   pub faulty-few : (k : ℕ) → readInterval line (lines (drop at s)) ≡ faulty k → k ≤ 65537

@@ -2,11 +2,12 @@
 use Prim.Native.Nat.{ℕ, zero, suc, _+_, _-_, _*_, _≤_, _<_}
 use mathlib.Core.Path.{_≡_, refl, sym, ap, subst, _∙_}
 use mathlib.Core.List.{List, [], _∷_, _++_, append-nil}
-use mathlib.Core.Bool.{Bool, cond}
+use mathlib.Core.Bool.{Bool, true, false, cond}
 use native.Mathlib.Omega.{arith}
-use borrow.Author.Tests.{le-leb, lt-leb, lt-ltb, le-ltb, ltb-true}
-use lib.Dec.{ltb}
-use lib.ListN.{length, drop}
+use borrow.Author.Tests.{le-leb, lt-leb, lt-ltb, le-ltb, ltb-true, leb-true}
+use lib.Dec.{leb, ltb}
+use lib.ListN.{length, length-append}
+use lib.IntN.{pos}
 use lib.Seq.{sets}
 use Rattle.curve.specs.Refusals.{numberOf}
 use Rattle.curve.specs.declared.Refusal.{Refusal}
@@ -17,9 +18,9 @@ use Rattle.engine.specs.Hours.{blankHour, hourRefusal, hourAfter, nextHour, unl
 use Rattle.engine.specs.Openings.{openingRefusal, freshHour, hourUnless, openedHour}
 use Rattle.engine.specs.declared.Hour.{Hour}
 use Rattle.engine.specs.declared.Opening.{Opening}
-use Rattle.text.specs.Numbers.{Line, lines}
+use Rattle.text.specs.Numbers.{Line, bytes, lines}
 use Rattle.text.specs.Tables.{Reading, faulty, found}
-use Rattle.text.specs.Pages.{refusalText}
+use Rattle.text.specs.Pages.{lineText, refusalText}
 use Rattle.parts.specs.Parts.{readOpening, readInterval}
 use Rattle.run.specs.Run.{part, answer, pageOf, intervals, hourText, partsText, output, ranWithin, ranTo}
 use Rattle.run.specs.declared.Ran.the-variants as ran
@@ -27,6 +28,7 @@ use Rattle.run.proofs.CountLaws.{Uses, opening-using}
 use Rattle.text.specs.declared.pages.Printed.{Printed}
 use Rattle.text.specs.declared.pages.Printed.the-variants.{To, Full}
 use Rattle.page.specs.Pages.{putWithin, putWithinTo}
+use Rattle.page.proofs.PageLaws.{line-few}
 
 -- a text that has room is put by a call that answers To
 module _ (room : ℕ) (out : List ℕ) (at : ℕ) (text last : List ℕ) (answer : Printed) (fits : at + room ≤ length out)
@@ -42,6 +44,11 @@ module _ (room : ℕ) (out : List ℕ) (at : ℕ) (text last : List ℕ) (answer
 
   pub put-full : {X : Type 0} → answer ≡ Full → X
   put-full g = absurd (let h : answer ≡ To (at + length text) = put-both .1 in let z : _≡_ {A = ℕ} 0 1 = cc in omega arith)
+
+-- the lines of a refusal are short
+pub refusal-few : (number line : ℕ) → length (refusalText number line) ≤ 64
+unfolding refusalText
+refusal-few number line = omega (arith, length-append (bytes "refusal line\n") (lineText (pos number ∷ pos line ∷ [])), line-few (pos number ∷ pos line ∷ []))
 
 -- ---- what interval i and those after it print
 pub by-part : (f i : ℕ) (h : Hour) (n : ℕ) (ls : List Line) → 0 < length ls
@@ -151,22 +158,33 @@ module _ (out text : List ℕ) where
       let e = lt-leb 655424 (length out) h in
       (sym (ap (λ (b : Bool). cond b (sets out 0 (output text)) out) e), sym (ap (λ (b : Bool). cond b (ran.Printed (length (output text))) ran.TooSmall) e))
 
+  -- the page and the answer after n bytes, and the room that they took
+  abbrev pub Ends : List ℕ → ℕ → Type 0
+  Ends put n = (put ≡ ranWithin out (output text)) × ((ran.Printed n ≡ ranTo out (output text)) × (655424 ≤ length out → length (output text) ≤ 655424))
+
   module _ (fits : 655424 ≤ length out) where
     -- what is printed is t
-    puts : (t : List ℕ) → output text ≡ t → (put : List ℕ) (n : ℕ) → put ≡ sets out 0 t → n ≡ length t → (put ≡ ranWithin out (output text)) × (ran.Printed n ≡ ranTo out (output text))
+    puts : (t : List ℕ) → output text ≡ t → (put : List ℕ) (n : ℕ) → put ≡ sets out 0 t → n ≡ length t → n ≤ 655424 → Ends put n
     unfolding ranWithin ranTo
-    puts t e put n f g =
+    puts t e put n f g l =
         let h = le-leb 655424 (length out) fits in (
           f ∙ ap (sets out 0) (sym e) ∙ sym (ap (λ (b : Bool). cond b (sets out 0 (output text)) out) h),
-          ap ran.Printed (g ∙ ap length (sym e)) ∙ sym (ap (λ (b : Bool). cond b (ran.Printed (length (output text))) ran.TooSmall) h),
+          (ap ran.Printed (g ∙ ap length (sym e)) ∙ sym (ap (λ (b : Bool). cond b (ran.Printed (length (output text))) ran.TooSmall) h), λ k. omega (arith, g, l, ap length e)),
         )
 
-    pub too-long : 65536 < length text → (put : List ℕ) (n : ℕ) → put ≡ sets out 0 (refusalText 18 1) → n ≡ 0 + length (refusalText 18 1)
-        → (put ≡ ranWithin out (output text)) × (ran.Printed n ≡ ranTo out (output text))
+    pub too-long : 65536 < length text → (put : List ℕ) (n : ℕ) → put ≡ sets out 0 (refusalText 18 1) → n ≡ 0 + length (refusalText 18 1) → n ≤ 655424 → Ends put n
     unfolding output
     too-long h put n f g = puts (refusalText 18 1) (ap (λ (b : Bool). cond b (refusalText 18 1) (partsText (lines text))) (lt-ltb 65536 (length text) h)) put n f (omega (arith, g))
 
-    pub ran-parts : length text ≤ 65536 → (put : List ℕ) (n : ℕ) → put ≡ sets out 0 (partsText (lines text)) → n ≡ length (partsText (lines text))
-        → (put ≡ ranWithin out (output text)) × (ran.Printed n ≡ ranTo out (output text))
+    pub ran-parts : length text ≤ 65536 → (put : List ℕ) (n : ℕ) → put ≡ sets out 0 (partsText (lines text)) → n ≡ length (partsText (lines text)) → n ≤ 655424 → Ends put n
     unfolding output
     ran-parts h = puts (partsText (lines text)) (ap (λ (b : Bool). cond b (refusalText 18 1) (partsText (lines text))) (le-ltb 65536 (length text) h))
+
+-- a count is that of a text that has room
+pub count-few : (out printed : List ℕ) (k : ℕ) → ran.Printed k ≡ ranTo out printed → (655424 ≤ length out → length printed ≤ 655424) → k ≤ 655424
+unfolding ranTo
+count-few out printed k e h = go (leb 655424 (length out)) refl e
+  where
+    go : (b : Bool) → leb 655424 (length out) ≡ b → ran.Printed k ≡ cond b (ran.Printed (length printed)) ran.TooSmall → k ≤ 655424
+    go true t f = let p : k ≡ length printed = cc in omega (arith, p, h (leb-true 655424 (length out) t))
+    go false t f = absurd (let z : _≡_ {A = ℕ} 0 1 = cc in omega arith)

@@ -13,7 +13,7 @@ ghost use lib.Seq.{sets};
 ghost use Rattle.text.specs.Numbers.{lines};
 ghost use Rattle.text.specs.Pages.{refusalText};
 ghost use Rattle.page.specs.Pages.{pageText};
-ghost use Rattle.run.specs.Run.{hourText, partsText, output, ranWithin, ranTo};
+ghost use Rattle.run.specs.Run.{hourText, partsText, output, runRoom, ranWithin, ranTo};
 
 // How many bytes were printed, or that the lent page has less room than ROOM.
 pub enum Ran {
@@ -30,7 +30,7 @@ pub const MAX_TEXT: usize = 65_536;
 // Puts the lines of a refusal at an offset, and answers the offset after them.
 fn put_refusal(out: &mut [u8], at: usize, number: u64, line: usize) -> usize
     requires { ⌜ (at + 64 ≤ length (now out)) × ((number ≤ 18) × (line ≤ 200000)) ⌝ }
-    ensures { λ r. ⌜ (now (out .exit) ≡ sets (now (out .entry)) at (refusalText number line)) × (r ≡ at + length (refusalText number line)) ⌝ }
+    ensures { λ r. ⌜ (now (out .exit) ≡ sets (now (out .entry)) at (refusalText number line)) × ((r ≡ at + length (refusalText number line)) × (r ≤ at + 64)) ⌝ }
 {
     match page::print_refusal(out, at, number, line as u64) {
         Printed::To(next) => next,
@@ -67,7 +67,7 @@ fn put_intervals(
     requires fresh { ⌜ fresh .accepted ≡ 0 ⌝ }
     requires room { ⌜ 655424 ≤ length (now out) ⌝ }
     requires text { ⌜ «lines_before» + length (lines (drop start (now text))) ≤ 65536 ⌝ }
-    ensures { λ r. ⌜ (now (out .exit) ≡ sets (now (out .entry)) 0 (hourText fresh «lines_before» (lines (drop start (now (text .entry)))))) × (r ≡ length (hourText fresh «lines_before» (lines (drop start (now (text .entry)))))) ⌝ }
+    ensures { λ r. ⌜ (now (out .exit) ≡ sets (now (out .entry)) 0 (hourText fresh «lines_before» (lines (drop start (now (text .entry)))))) × ((r ≡ length (hourText fresh «lines_before» (lines (drop start (now (text .entry)))))) × (r ≤ 655424)) ⌝ }
 {
     let mut hour = fresh;
     let mut at = start;
@@ -101,7 +101,7 @@ fn put_intervals(
 fn put_parts(text: &[u8], out: &mut [u8]) -> usize
     requires room { ⌜ 655424 ≤ length (now out) ⌝ }
     requires text { ⌜ length (now text) ≤ 65536 ⌝ }
-    ensures { λ r. ⌜ (now (out .exit) ≡ sets (now (out .entry)) 0 (partsText (lines (now (text .entry))))) × (r ≡ length (partsText (lines (now (text .entry))))) ⌝ }
+    ensures { λ r. ⌜ (now (out .exit) ≡ sets (now (out .entry)) 0 (partsText (lines (now (text .entry))))) × ((r ≡ length (partsText (lines (now (text .entry))))) × (r ≤ 655424)) ⌝ }
 {
     let read = opening_at(text, 0, 0);
     let fault = read.fault;
@@ -121,6 +121,7 @@ fn put_parts(text: &[u8], out: &mut [u8]) -> usize
 pub fn run(text: &[u8], out: &mut [u8]) -> Ran
     ensures buffer { λ r. ⌜ now (out .exit) ≡ ranWithin (now (out .entry)) (output (now (text .entry))) ⌝ }
     ensures count { λ r. ⌜ r ≡ ranTo (now (out .entry)) (output (now (text .entry))) ⌝ }
+    ensures whole { λ r. ⌜ (runRoom ≤ length (now (out .entry)) → length (output (now (text .entry))) ≤ runRoom) ⌝ }
 {
     if out.len() < ROOM {
         return Ran::TooSmall;

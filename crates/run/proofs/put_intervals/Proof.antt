@@ -20,7 +20,7 @@ use Rattle.curve.proofs.RefusalLaws.{refused-number}
 use Rattle.page.specs.Pages.{pageText}
 use Rattle.run.specs.Run.{pageOf, hourText}
 use Rattle.run.proofs.RunLaws.{number-few}
-use Rattle.run.proofs.GoingLaws.{Going, positive, read-faulty, read-found, going-start, going-end, going-faulty, going-refused, going-few, faulty-few, left-after, going-next}
+use Rattle.run.proofs.GoingLaws.{Going, positive, within, refused-room, read-faulty, read-found, going-start, going-end, going-faulty, going-refused, going-few, faulty-few, left-after, going-next}
 use Rattle.run.proofs.put_intervals.Statement.{statement}
 use Rattle.run.proofs.put_intervals.Tie as tie
 
@@ -86,7 +86,9 @@ returns c =
     let q = c .before .before in
     let t = q .before .before in
     let l = t .before .before .before in
-    going-faulty (l .loop .inv) (t .before .before .loop-test .taken) (t .before .interval-at .result .fault) (q .put-refusal .last .0) (q .put-refusal .result) (is-faulty t) (q .put-refusal .ensures .0) (q .put-refusal .ensures .1)
+    let w = l .loop .inv in
+    let e = q .put-refusal .ensures in
+    within (going-faulty w (t .before .before .loop-test .taken) (t .before .interval-at .result .fault) (q .put-refusal .last .0) (q .put-refusal .result) (is-faulty t) (e .0) (e .1 .0)) (refused-room w (e .1 .1))
 
 same-length : tie.Need-same-length Inv-loop μ-loop
 same-length c =
@@ -119,8 +121,12 @@ returns-2 c =
     let n = q .before in
     let e = n .before .before .before .before .before .before .before in
     let l = e .before .before .before in
-    going-refused (l .loop .inv) (e .before .before .loop-test .taken) _ _ _ (is-found e) (n .number .result) (q .put-refusal2 .last .0) (q .put-refusal2 .result) (refusal n)
-    (omega (arith, n .number .ensures, refused-number (n .before .before .before .outcome .given .0 .0))) (q .put-refusal2 .ensures .0) (q .put-refusal2 .ensures .1)
+    let w = l .loop .inv in
+    let p = q .put-refusal2 .ensures in
+    within
+    (going-refused w (e .before .before .loop-test .taken) _ _ _ (is-found e) (n .number .result) (q .put-refusal2 .last .0) (q .put-refusal2 .result) (refusal n)
+    (omega (arith, n .number .ensures, refused-number (n .before .before .before .outcome .given .0 .0))) (p .0) (p .1 .0))
+    (refused-room w (p .1 .1))
 
 same-length-2 : tie.Need-same-length-2 Inv-loop μ-loop
 same-length-2 c =
@@ -165,7 +171,9 @@ same-length-3 : tie.Need-same-length-3 Inv-loop μ-loop
 same-length-3 c = c .before .loop .inv .put .long
 
 returns-3 : tie.Need-returns-3 Inv-loop μ-loop
-returns-3 c = going-end (c .before .loop .inv) (omega (arith, c .loop-test .left))
+returns-3 c =
+    let w = c .before .loop .inv in
+    within (going-end w (omega (arith, c .loop-test .left))) (omega (arith, w .few, w .high))
 
 pub put-intervals-spec : {M : Type 1} → statement M
 put-intervals-spec =

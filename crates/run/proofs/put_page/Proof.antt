@@ -10,23 +10,18 @@ use Rattle.run.proofs.put_page.Reads as reads
 use Rattle.run.proofs.put_page.Lts as lts
 use Rattle.page.proofs.print_page.Reads as print-page-reads
 
--- src/lib.rt:49:11
 print-page-requires : tie.Need-print-page-requires
 print-page-requires c κs = search needs
 
--- src/lib.rt:50:21
 enum-known-next : tie.Need-enum-known-next
 enum-known-next c = search needs
 
--- src/lib.rt:51:26
 enum-told : tie.Need-enum-told
 enum-told c = search needs
 
--- src/lib.rt:38:1
 same-length : tie.Need-same-length
 same-length c = search needs
 
--- src/lib.rt:38:1
 returns : tie.Need-returns
 returns c =
     let p = c .before .before .before .before .before in
@@ -34,11 +29,9 @@ returns c =
     let g = put-to pageRoom (a .out .now) (a .at) (pageText (a .i) (a .hour) (a .constraints) (a .verdicts)) (p .print-page .last .0) (p .print-page .result) (p .before .before .before .pre) (p .print-page .ensures .0) (p .print-page .ensures .1 .0) (c .before .next .given .0 .0) (c .before .next .given .1) in
     (g .0, (g .1, omega (arith, g .1, p .print-page .ensures .1 .1 (p .before .before .before .pre))))
 
--- src/lib.rt:38:1
 same-length-2 : tie.Need-same-length-2
 same-length-2 c = search needs
 
--- src/lib.rt:38:1
 returns-2 : tie.Need-returns-2
 returns-2 c =
     let p = c .before .before .before .before in

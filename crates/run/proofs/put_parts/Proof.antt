@@ -39,8 +39,8 @@ left : (e : tie.Else1) → e .before .opening-at .result .line + length (lines (
 left e = omega (arith, parts-left _ _ _ _ (is-found e), lines-few (text (e .before)), e .before .before .before .before .pre .1)
 
 -- what was put is the text t
-puts : (out put : List ℕ) (t whole : List ℕ) (r : ℕ) → whole ≡ t → put ≡ sets out 0 t → r ≡ 0 + length t → (put ≡ sets out 0 whole) × (r ≡ length whole)
-puts out put t whole r e f g = (f ∙ ap (sets out 0) (sym e), omega (arith, g, ap length e))
+puts : (out put : List ℕ) (t whole : List ℕ) (r : ℕ) → whole ≡ t → put ≡ sets out 0 t → r ≡ 0 + length t → r ≤ 655424 → (put ≡ sets out 0 whole) × ((r ≡ length whole) × (r ≤ 655424))
+puts out put t whole r e f g h = (f ∙ ap (sets out 0) (sym e), (omega (arith, g, ap length e), h))
 
 -- the number of a refusal
 refusal : (n : tie.After-number) → openingRefusal (n .before .before .before .before .before .before .before .opening-at .result .opening) ≡ n .number .result
@@ -70,7 +70,7 @@ returns : tie.Need-returns
 returns c =
     let q = c .before .before in
     let t = q .before .before in
-    puts (t .before .before .before .before .args .out .now) (q .put-refusal .last .0) (refusalText 17 (t .before .opening-at .result .fault)) _ (q .put-refusal .result) (parts-faulty _ _ (is-faulty t)) (q .put-refusal .ensures .0) (q .put-refusal .ensures .1)
+    puts (t .before .before .before .before .args .out .now) (q .put-refusal .last .0) (refusalText 17 (t .before .opening-at .result .fault)) _ (q .put-refusal .result) (parts-faulty _ _ (is-faulty t)) (q .put-refusal .ensures .0) (q .put-refusal .ensures .1 .0) (omega (arith, q .put-refusal .ensures .1 .1))
 
 open-requires : tie.Need-open-requires
 open-requires c κs = search needs
@@ -101,7 +101,7 @@ returns-2 c =
     let n = q .before in
     let e = opened n in
     puts (e .before .before .before .before .args .out .now) (q .put-refusal2 .last .0) (refusalText (n .number .result) (e .before .opening-at .result .line)) _ (q .put-refusal2 .result)
-    (parts-refused _ _ _ _ (is-found e) (n .number .result) (refusal n) (omega (arith, n .number .ensures, refused-number (n .before .before .before .outcome .given .0 .0)))) (q .put-refusal2 .ensures .0) (q .put-refusal2 .ensures .1)
+    (parts-refused _ _ _ _ (is-found e) (n .number .result) (refusal n) (omega (arith, n .number .ensures, refused-number (n .before .before .before .outcome .given .0 .0)))) (q .put-refusal2 .ensures .0) (q .put-refusal2 .ensures .1 .0) (omega (arith, q .put-refusal2 .ensures .1 .1))
 
 enum-told : tie.Need-enum-told
 enum-told c = search needs
@@ -135,7 +135,7 @@ returns-3 c =
     let r = e .before .opening-at .result in
     puts (e .before .before .before .before .args .out .now) (q .put-intervals .last .1 .1 .1 .1 .0) (rest t) _ (q .put-intervals .result)
     (parts-accepted _ _ _ _ (is-found e) (none t) ∙ ap (λ (h : Hour). hourText h (r .line) (lines (drop (r .next) (text (e .before))))) (sym (t .before .before .open .ensures .1)))
-    (q .put-intervals .ensures .0) (omega (arith, q .put-intervals .ensures .1))
+    (q .put-intervals .ensures .0) (omega (arith, q .put-intervals .ensures .1 .0)) (q .put-intervals .ensures .1 .1)
 
 pub put-parts-spec : {M : Type 1} → statement M
 put-parts-spec =

@@ -7,7 +7,7 @@ use lib.ListN.{length}
 use lib.Seq.{sets}
 use Rattle.page.specs.Pages.{printable, refusalRoom}
 use Rattle.text.specs.Pages.{refusalText}
-use Rattle.run.proofs.RunLaws.{put-to, put-full}
+use Rattle.run.proofs.RunLaws.{put-to, put-full, refusal-few}
 use borrow.Author.Needs.{needs}
 use Rattle.run.proofs.put_refusal.Statement.{statement}
 use Rattle.run.proofs.put_refusal.Tie as tie
@@ -15,7 +15,6 @@ use Rattle.run.proofs.put_refusal.Reads as reads
 use Rattle.run.proofs.put_refusal.Lts as lts
 use Rattle.page.proofs.print_refusal.Reads as print-refusal-reads
 
--- src/lib.rt:31:11
 -- small numbers are printed as they are
 shown : (n l : ℕ) → n ≤ 18 → l ≤ 200000 → refusalText (printable n) (printable l) ≡ refusalText n l
 shown n l h k = ap (λ (x : ℕ). refusalText x (printable l)) (let e : printable n ≡ n = omega arith in e) ∙ ap (refusalText n) (let e : printable l ≡ l = omega arith in e)
@@ -23,32 +22,27 @@ shown n l h k = ap (λ (x : ℕ). refusalText x (printable l)) (let e : printabl
 print-refusal-requires : tie.Need-print-refusal-requires
 print-refusal-requires c κs = search needs
 
--- src/lib.rt:32:21
 enum-known-next : tie.Need-enum-known-next
 enum-known-next c = search needs
 
--- src/lib.rt:33:26
 enum-told : tie.Need-enum-told
 enum-told c = search needs
 
--- src/lib.rt:27:1
 same-length : tie.Need-same-length
 same-length c = search needs
 
--- src/lib.rt:27:1
 returns : tie.Need-returns
 returns c =
     let p = c .before .before .before .before .before in
     let a = p .before .before .before .args in
     let e : refusalText (printable (a .number)) (printable (a .line)) ≡ refusalText (a .number) (a .line) = shown (a .number) (a .line) (p .before .before .before .pre .1 .0) (p .before .before .before .pre .1 .1) in
     let g = put-to refusalRoom (a .out .now) (a .at) (refusalText (printable (a .number)) (printable (a .line))) (p .print-refusal .last .0) (p .print-refusal .result) (p .before .before .before .pre .0) (p .print-refusal .ensures .0) (p .print-refusal .ensures .1) (c .before .next .given .0 .0) (c .before .next .given .1) in
-    (g .0 ∙ ap (sets (a .out .now) (a .at)) e, g .1 ∙ ap (λ (t : List ℕ). a .at + length t) e)
+    let n = g .1 ∙ ap (λ (t : List ℕ). a .at + length t) e in
+    (g .0 ∙ ap (sets (a .out .now) (a .at)) e, (n, omega (arith, n, refusal-few (a .number) (a .line))))
 
--- src/lib.rt:27:1
 same-length-2 : tie.Need-same-length-2
 same-length-2 c = search needs
 
--- src/lib.rt:27:1
 returns-2 : tie.Need-returns-2
 returns-2 c =
     let p = c .before .before .before .before in

@@ -13,7 +13,8 @@ use Rattle.run.proofs.run.Tie as tie
 returns : tie.Need-returns
 returns c =
     let s = c .before .before .before in
-    too-small (s .args .out .now) (s .args .text .now) (c .if1 .taken)
+    let e = too-small (s .args .out .now) (s .args .text .now) (c .if1 .taken) in
+    (e .0, (e .1, λ fits. absurd (omega (arith, fits, c .if1 .taken))))
 
 put-refusal-requires : tie.Need-put-refusal-requires
 put-refusal-requires c κs = (omega (arith, c .before .before .if1 .left), (omega arith, omega arith))
@@ -29,7 +30,7 @@ returns-2 c =
     let q = c .before .before in
     let e = q .before .before .before in
     let s = e .before .before .before in
-    too-long (s .args .out .now) (s .args .text .now) (e .if1 .left) (q .before .before .if2 .taken) (q .put-refusal .last .0) (q .put-refusal .result) (q .put-refusal .ensures .0) (q .put-refusal .ensures .1)
+    too-long (s .args .out .now) (s .args .text .now) (e .if1 .left) (q .before .before .if2 .taken) (q .put-refusal .last .0) (q .put-refusal .result) (q .put-refusal .ensures .0) (q .put-refusal .ensures .1 .0) (omega (arith, q .put-refusal .ensures .1 .1))
 
 put-parts-requires : tie.Need-put-parts-requires
 put-parts-requires c κs = (c .before .before .if1 .left, c .before .if2 .left)
@@ -45,7 +46,7 @@ returns-3 c =
     let q = c .before .before in
     let e = q .before .before .before in
     let s = e .before .before .before in
-    ran-parts (s .args .out .now) (s .args .text .now) (e .if1 .left) (q .before .before .if2 .left) (q .put-parts .last .1 .0) (q .put-parts .result) (q .put-parts .ensures .0) (q .put-parts .ensures .1)
+    ran-parts (s .args .out .now) (s .args .text .now) (e .if1 .left) (q .before .before .if2 .left) (q .put-parts .last .1 .0) (q .put-parts .result) (q .put-parts .ensures .0) (q .put-parts .ensures .1 .0) (q .put-parts .ensures .1 .1)
 
 pub run-spec : {M : Type 1} → statement M
 run-spec =
