@@ -18,12 +18,13 @@ use Rattle.curve.proofs.CheckLaws.{then-both, unless-holds, each-at, checked-so
 use Rattle.mitigation.specs.Meaning.{Inside}
 use Rattle.cost.proofs.DefaultCurve.{cost-sound}
 use Rattle.engine.specs.Hours.{noRow, rowAt}
-use Rattle.engine.specs.Openings.{resourceAt, countsGood, membersGood, openingRefusal, freshHour, openedHour}
+use Rattle.opening.specs.Openings.{resourceAt, countsGood, membersGood, openingRefusal}
+use Rattle.engine.specs.Openings.{freshHour, openedHour}
 use Rattle.engine.specs.Demand3.{submitted, defaultOf}
 use Rattle.resource.specs.declared.Source.{Source}
 use Rattle.resource.specs.declared.Source.the-variants as source
 use Rattle.resource.specs.declared.Resource.{Resource}
-use Rattle.engine.specs.declared.Opening.{Opening}
+use Rattle.opening.specs.declared.Opening.{Opening}
 use Rattle.resource.specs.declared.Row.{Row}
 use Rattle.engine.proofs.CellLaws.{cell-listed}
 use Rattle.resource.specs.Resources.{blankRow, defaultBy, liesInside, resourceRefusal, rowOf, sourceRefusal}

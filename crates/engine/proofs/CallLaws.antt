@@ -16,11 +16,12 @@ use Rattle.interval.specs.Intervals.{intervalRefusal}
 use Rattle.interval.specs.declared.Interval.{Interval}
 use Rattle.engine.specs.Cuts.{cutOf}
 use Rattle.engine.specs.Hours.{rowAt, nextHour, hourAfter, hourAfterAll}
-use Rattle.engine.specs.Openings.{marketOf, openingRefusal, freshHour}
+use Rattle.opening.specs.Openings.{marketOf, openingRefusal}
+use Rattle.engine.specs.Openings.{freshHour}
 use Rattle.engine.specs.Demand3.{soundCalls, acceptedCalls, withCap, capsIn, hourOf}
 use Rattle.resource.specs.declared.Row.{Row}
 use Rattle.engine.specs.declared.Hour.{Hour}
-use Rattle.engine.specs.declared.Opening.{Opening}
+use Rattle.opening.specs.declared.Opening.{Opening}
 use Rattle.engine.proofs.AcceptedOpening.{opened-hour, fresh-row}
 use Rattle.engine.proofs.KeptLaws.{Call, full, faulty, taken, call, Kept, resources-kept, next-row, next-kept, fresh-kept}
 use Rattle.resource.specs.Resources.{rowOf}

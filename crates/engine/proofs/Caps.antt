@@ -22,9 +22,9 @@ use Rattle.path.specs.Judgements.{pathIn}
 use Rattle.path.specs.declared.Market.{Market}
 use Rattle.path.proofs.PathLaws.{non-competitive}
 use Rattle.engine.specs.Cuts.{entering, component, competitivePrice, cutBy, cutOf}
-use Rattle.engine.specs.Openings.{marketOf, openingRefusal}
+use Rattle.opening.specs.Openings.{marketOf, openingRefusal}
 use Rattle.engine.specs.Demand3.{acceptedCalls, withCap, capsIn, defaultPrice, caps, pathFrom, RisingFrom, Component, Competitive, Cap}
-use Rattle.engine.specs.declared.Opening.{Opening}
+use Rattle.opening.specs.declared.Opening.{Opening}
 use Rattle.engine.proofs.RisingLaws.{those-rising, rising-only}
 use Rattle.engine.proofs.MarketLaws.{market-non-competitive}
 

@@ -12,11 +12,12 @@ use Rattle.mitigation.specs.declared.FloorPrice.the-variants.{Uncut}
 use Rattle.mitigation.proofs.MitigatedCurve.{mitigated-is, mitigated-only, nineteen-suffice}
 use Rattle.interval.specs.declared.Interval.{Interval}
 use Rattle.engine.specs.Hours.{rowAt, curveIn, hourAfterAll}
-use Rattle.engine.specs.Openings.{openingRefusal, openedHour}
+use Rattle.opening.specs.Openings.{openingRefusal}
+use Rattle.engine.specs.Openings.{openedHour}
 use Rattle.engine.specs.Demand3.{submitted, defaultOf, hourOf, curveAfter}
 use Rattle.resource.specs.declared.Row.{Row}
 use Rattle.engine.specs.declared.Hour.{Hour}
-use Rattle.engine.specs.declared.Opening.{Opening}
+use Rattle.opening.specs.declared.Opening.{Opening}
 use Rattle.engine.proofs.AcceptedOpening.{opened-hour, bid-sound, default-sound, bid-inside, fresh-row}
 use Rattle.engine.proofs.KeptLaws.{hour-kept, kept-curve}
 use Rattle.resource.specs.Resources.{rowOf}

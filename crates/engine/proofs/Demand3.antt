@@ -10,9 +10,9 @@ use mathlib.Core.Path.{_≡_, _∙_}
 use Prim.Native.Nat.{ℕ, _<_}
 use Rattle.number.proofs.LeastLaws.{least-is-least}
 use Rattle.interval.specs.declared.Interval.{Interval}
-use Rattle.engine.specs.Openings.{openingRefusal}
+use Rattle.opening.specs.Openings.{openingRefusal}
 use Rattle.engine.specs.Demand3.{submittedPrice, defaultPrice, caps, Demand3}
-use Rattle.engine.specs.declared.Opening.{Opening}
+use Rattle.opening.specs.declared.Opening.{Opening}
 use Rattle.engine.proofs.CallLaws.{floor-price, hour-count}
 use Rattle.engine.proofs.Caps.{capping-exactly}
 use Rattle.engine.proofs.CurveShape.{shape}

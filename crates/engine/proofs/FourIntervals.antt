@@ -15,9 +15,9 @@ use Rattle.curve.proofs.CheckLaws.{then-both, unless-holds}
 use Rattle.interval.specs.Intervals.{sameCount, constraintsGood, rangesGood, outputsGood, intervalRefusal}
 use Rattle.interval.specs.declared.Interval.{Interval}
 use Rattle.engine.specs.Hours.{hourRefusal}
-use Rattle.engine.specs.Openings.{openingRefusal}
+use Rattle.opening.specs.Openings.{openingRefusal}
 use Rattle.engine.specs.Demand3.{soundCalls, acceptedCalls, hourOf}
-use Rattle.engine.specs.declared.Opening.{Opening}
+use Rattle.opening.specs.declared.Opening.{Opening}
 use Rattle.engine.proofs.AcceptedOpening.{few}
 use Rattle.engine.proofs.KeptLaws.{hour-kept, resources-kept}
 use Rattle.engine.proofs.CallLaws.{hour-count}

@@ -15,11 +15,12 @@ use Rattle.interval.specs.Intervals.{lmpAt, dispatchAt}
 use Rattle.interval.specs.declared.Interval.{Interval}
 use Rattle.engine.specs.Cuts.{cutOf}
 use Rattle.engine.specs.Hours.{rowAt, hourRefusal}
-use Rattle.engine.specs.Openings.{marketOf, openingRefusal, openedHour}
+use Rattle.opening.specs.Openings.{marketOf, openingRefusal}
+use Rattle.engine.specs.Openings.{openedHour}
 use Rattle.engine.specs.Demand3.{submittedPrice, defaultPrice, InBid, Component, Competitive, hourOf, curveAfter}
 use Rattle.resource.specs.declared.Row.{Row}
 use Rattle.engine.specs.declared.Hour.{Hour}
-use Rattle.engine.specs.declared.Opening.{Opening}
+use Rattle.opening.specs.declared.Opening.{Opening}
 use Rattle.engine.proofs.KeptLaws.{accepted-call, refused-call, one-more, next-row, hour-kept}
 use Rattle.engine.proofs.Caps.{cut-exactly, uncut-exactly}
 use Rattle.engine.proofs.CurveShape.{shape}

@@ -17,11 +17,12 @@ use Rattle.interval.specs.declared.Interval.{Interval}
 use Rattle.path.specs.declared.Market.{Market}
 use Rattle.engine.specs.Cuts.{cutOf}
 use Rattle.engine.specs.Hours.{noRow, rowAt, curveIn, cutRow, nextHour, hourRefusal, unlessRefused, hourAfter, hourAfterAll}
-use Rattle.engine.specs.Openings.{marketOf, openingRefusal, freshHour, openedHour}
+use Rattle.opening.specs.Openings.{marketOf, openingRefusal}
+use Rattle.engine.specs.Openings.{freshHour, openedHour}
 use Rattle.engine.specs.Demand3.{submitted, defaultOf, hourOf}
 use Rattle.resource.specs.declared.Row.{Row}
 use Rattle.engine.specs.declared.Hour.{Hour}
-use Rattle.engine.specs.declared.Opening.{Opening}
+use Rattle.opening.specs.declared.Opening.{Opening}
 use Rattle.engine.proofs.AcceptedOpening.{opened-hour, fresh-row, fresh-room}
 use Rattle.resource.specs.Resources.{rowOf}
 

@@ -1,5 +1,4 @@
 -- Laws of opening and interval; then demand 3 and the other theorems; the marked cases.
-pub mod OpeningLaws
 pub mod WeightLaws
 pub mod LimitLaws
 pub mod RowLaws

@@ -23,7 +23,8 @@ use Rattle.path.specs.declared.Finding.the-variants.{Competitive, NonCompetitiv
 use Rattle.path.specs.declared.Verdict.{Verdict}
 use Rattle.engine.specs.Cuts.{entering, component, cutBy, cutOf}
 use Rattle.engine.specs.Hours.{blankHour, curveIn, nextHour, hourRefusal, hourAfter, hourVerdicts, hourAfterAll}
-use Rattle.engine.specs.Openings.{sellersGood, ownersGood, openingRefusal, marketOf, freshHour, openedHour}
+use Rattle.opening.specs.Openings.{sellersGood, ownersGood, openingRefusal, marketOf}
+use Rattle.engine.specs.Openings.{freshHour, openedHour}
 use Rattle.engine.proofs.CaseT.{costsT, openingT, intervalAt, intervalT, costs3, path4, bid10}
 use Rattle.resource.specs.Resources.{liesInside, resourceRefusal, rowOf}
 

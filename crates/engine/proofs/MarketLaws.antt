@@ -15,9 +15,9 @@ use Rattle.interval.specs.Intervals.{availableAt, floorAt, factorAt}
 use Rattle.interval.specs.declared.Interval.{Interval}
 use Rattle.path.specs.Paths.{Path, effectiveness, demand, supply, share, withholdable, Withheld, NetSeller, Possible, NonCompetitive}
 use Rattle.path.specs.Judgements.{pathIn}
-use Rattle.engine.specs.Openings.{resourceAt, sellerAt, openingRefusal, marketOf}
+use Rattle.opening.specs.Openings.{resourceAt, sellerAt, openingRefusal, marketOf}
 use Rattle.engine.specs.Demand3.{pathFrom}
-use Rattle.engine.specs.declared.Opening.{Opening}
+use Rattle.opening.specs.declared.Opening.{Opening}
 use Rattle.engine.proofs.CellLaws.{cell-listed, cell-past}
 use Rattle.engine.proofs.AcceptedOpening.{few}
 

@@ -16,10 +16,11 @@ use Rattle.interval.specs.declared.Interval.{Interval}
 use Rattle.path.specs.Paths.{demand, supply, share, withholdable, offer, offers, largest, top, total, sellers, left, isNonCompetitive}
 use Rattle.engine.specs.Cuts.{entering, component, cutBy, cutOf}
 use Rattle.engine.specs.Hours.{curveIn, nextHour, hourRefusal, hourAfter, hourAfterAll}
-use Rattle.engine.specs.Openings.{noCosts, noResource, sellersGood, ownersGood, openingRefusal, marketOf, freshHour, openedHour}
+use Rattle.opening.specs.Openings.{noCosts, noResource, sellersGood, ownersGood, openingRefusal, marketOf}
+use Rattle.engine.specs.Openings.{freshHour, openedHour}
 use Rattle.resource.specs.declared.Source.the-variants as source
 use Rattle.resource.specs.declared.Resource.{Resource}
-use Rattle.engine.specs.declared.Opening.{Opening}
+use Rattle.opening.specs.declared.Opening.{Opening}
 use Rattle.engine.specs.declared.Hour.{Hour}
 use Rattle.engine.proofs.CaseT.{rawTo, cells}
 use Rattle.resource.specs.Resources.{liesInside, resourceRefusal, rowOf}

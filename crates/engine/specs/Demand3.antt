@@ -24,8 +24,9 @@ use Rattle.path.specs.Paths.{Path, NonCompetitive}
 use Rattle.path.specs.declared.Market.{Market}
 use Rattle.engine.specs.Cuts.{cutOf}
 use Rattle.engine.specs.Hours.{curveIn, hourAfterAll}
-use Rattle.engine.specs.Openings.{resourceAt, sellerAt, marketOf, openedHour}
-use Rattle.engine.specs.declared.Opening.{Opening}
+use Rattle.opening.specs.Openings.{resourceAt, sellerAt, marketOf}
+use Rattle.engine.specs.Openings.{openedHour}
+use Rattle.opening.specs.declared.Opening.{Opening}
 use Rattle.engine.specs.declared.Hour.{Hour}
 use Rattle.resource.specs.Resources.{defaultBy}
 

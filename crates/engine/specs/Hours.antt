@@ -16,13 +16,10 @@ use Rattle.path.specs.Judgements.{verdictsOf, verdictsUnless}
 use Rattle.path.specs.declared.Market.{Market}
 use Rattle.path.specs.declared.Verdict.{Verdict}
 use Rattle.resource.specs.Resources.{blankRow}
+use Rattle.opening.specs.Openings.{blankMarket}
 use Rattle.engine.specs.Cuts.{cutOf}
 use Rattle.resource.specs.declared.Row.{Row}
 use Rattle.engine.specs.declared.Hour.{Hour}
-
--- ---- blank values, past what is used and in a refusal
-abbrev pub blankMarket : Market
-blankMarket = record { resources = 0; portfolio = replicate 64 0; seller = replicate 16 0 }
 
 unfoldable pub blankHour : Hour
 blankHour = record { accepted = 0; market = blankMarket; rows = replicate 64 blankRow }

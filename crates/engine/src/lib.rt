@@ -1,7 +1,5 @@
 // Opening an hour and taking its intervals (paper 01, Interval and hour; 31.2.3, 34.1.5; Refused, by place: 9 to 16).
 // The contracts cite specs/Openings, specs/Hours, specs/Cuts and specs/Weights.
-mod fresh;
-
 ghost use mathlib.Core.Path.{_≡_};
 ghost use Prim.Native.Nat.{_≤_};
 ghost use lib.IntN.{natAbs};
@@ -11,27 +9,20 @@ ghost use Rattle.interval.specs.Intervals.{intervalRefusal};
 ghost use Rattle.engine.specs.Cuts.{cutBy};
 ghost use Rattle.engine.specs.Weights as Weights;
 ghost use Rattle.engine.specs.Weights.{weightsOf, weighed, Weighable, cutRows};
-ghost use Rattle.engine.specs.Hours.{cutRow, rowCurve, curveIn, hourRefusal, hourAfter, hourVerdicts};
+ghost use Rattle.opening.specs.Openings.{openingRefusal};
+ghost use Rattle.engine.specs.Openings.{openedHour};
+ghost use Rattle.engine.specs.Hours.{blankHour, cutRow, rowCurve, curveIn, hourRefusal, hourAfter, hourVerdicts};
 use curve::Curve;
 use curve::Outcome;
 use curve::Refusal;
 use interval::Interval;
 use mitigation::FloorPrice;
 use mitigation::Mitigated;
+use opening::Opening;
 use path::Finding;
 use path::Market;
 use path::Verdict;
-use resource::Resource;
 use resource::Row;
-
-// What an hour is opened from: counts may be more than the room.
-pub struct Opening {
-    pub month: i64,
-    pub portfolios: usize,
-    pub sellers: [i64; Market::MAX_PORTFOLIOS],
-    pub resources: usize,
-    pub list: [Resource; Hour::MAX_RESOURCES],
-}
 
 // An hour: how many intervals it has accepted, who owns what, and its resources.
 pub struct Hour {
@@ -144,6 +135,40 @@ pub fn row_curve(row: Row) -> Mitigated
 }
 
 impl Hour {
+    // The hour of no resources.
+    pub fn blank() -> Hour
+        ensures { λ r. ⌜ r ≡ blankHour ⌝ }
+    {
+        Hour {
+            accepted: 0,
+            market: Market {
+                resources: 0,
+                portfolio: [0; Hour::MAX_RESOURCES],
+                seller: [0; Market::MAX_PORTFOLIOS],
+            },
+            rows: [Row::blank(); Hour::MAX_RESOURCES],
+        }
+    }
+
+    // The freshly opened hour, or the first refusal.
+    pub fn open(o: Opening) -> Opened
+        ensures number { λ r. ⌜ outcomeNumber (r .outcome) ≡ openingRefusal o ⌝ }
+        ensures hour { λ r. ⌜ r .hour ≡ openedHour o ⌝ }
+    {
+        let entered = o.entered();
+        let outcome = entered.outcome;
+        let market = entered.market;
+        let rows = entered.rows;
+        Opened {
+            outcome: outcome,
+            hour: Hour {
+                accepted: 0,
+                market: market,
+                rows: rows,
+            },
+        }
+    }
+
     // The present curve of resource r: a blank one where the hour has no such resource.
     pub fn curve(self, r: usize) -> Mitigated
         ensures { λ x. ⌜ x ≡ curveIn self r ⌝ }

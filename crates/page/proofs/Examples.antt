@@ -20,7 +20,8 @@ use Rattle.path.specs.declared.Finding.the-variants.{Competitive, NonCompetitiv
 use Rattle.path.specs.declared.Verdict.{Verdict}
 use Rattle.engine.specs.Cuts.{entering, component, cutBy, cutOf}
 use Rattle.engine.specs.Hours.{blankHour, curveIn, nextHour, hourRefusal, hourAfter, hourVerdicts}
-use Rattle.engine.specs.Openings.{sellersGood, ownersGood, openingRefusal, marketOf, freshHour, openedHour}
+use Rattle.opening.specs.Openings.{sellersGood, ownersGood, openingRefusal, marketOf}
+use Rattle.engine.specs.Openings.{freshHour, openedHour}
 use Rattle.engine.specs.declared.Hour.{Hour}
 use Rattle.engine.proofs.CaseT.{openingT, intervalT}
 use Rattle.text.specs.Numbers.{Row, bytes}

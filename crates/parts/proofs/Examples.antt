@@ -4,7 +4,7 @@ use mathlib.Core.Path.{_≡_, refl}
 use mathlib.Core.List.{[], _∷_}
 use lib.IntN.{pos, negsuc}
 use Rattle.number.specs.Over.{padded}
-use Rattle.engine.specs.declared.Opening.{Opening}
+use Rattle.opening.specs.declared.Opening.{Opening}
 use Rattle.resource.specs.declared.Source.the-variants as source
 use Rattle.engine.proofs.CaseT.{bidT, costsT, openingT, intervalT}
 use Rattle.text.specs.Numbers.{bytes, lines, number, magnitude, row}

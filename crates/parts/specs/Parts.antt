@@ -15,7 +15,7 @@ use Rattle.cost.specs.declared.Costs.{Costs}
 use Rattle.interval.specs.declared.Interval.{Interval}
 use Rattle.resource.specs.declared.Source.the-variants as source
 use Rattle.resource.specs.declared.Resource.{Resource}
-use Rattle.engine.specs.declared.Opening.{Opening}
+use Rattle.opening.specs.declared.Opening.{Opening}
 use Rattle.text.specs.Numbers.{Line, Row, bytes, same}
 use Rattle.text.specs.Tables.{Reader, found, _▷_, due, headed, cell, single, run, rows, counted, grouped, pairs, each}
 use Rattle.text.specs.Offsets.{kept}

@@ -9,7 +9,7 @@ use native.Mathlib.Omega.{arith}
 use lib.ListN.{length, drop, length-drop}
 use lib.IntN.{ℤ}
 use Rattle.interval.specs.declared.Interval.{Interval}
-use Rattle.engine.specs.declared.Opening.{Opening}
+use Rattle.opening.specs.declared.Opening.{Opening}
 use Rattle.text.specs.Numbers.{Line, Row, bytes, row, same}
 use Rattle.text.specs.Tables.{Reading, faulty, found, Reader, next, _▷_, taken, due, headed, single, ifSuits, hasId, andMore, run, rows, counting, counted, each, grouped, pairs}
 use Rattle.parts.specs.Parts.{openingOf, readOpening, factorRows, intervalOf, parameterOf, readInterval}

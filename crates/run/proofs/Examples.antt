@@ -13,7 +13,8 @@ use Rattle.cost.specs.Costs.{width, unlimited, incrementalRate, fuel, greenhous
 use Rattle.interval.specs.Intervals.{allWithin, factorsGood, outputsGood, intervalRefusal}
 use Rattle.resource.specs.Resources.{liesInside, resourceRefusal, rowOf}
 use Rattle.engine.specs.Hours.{blankHour, nextHour, hourRefusal, hourAfter}
-use Rattle.engine.specs.Openings.{sellersGood, ownersGood, openingRefusal, marketOf, freshHour, openedHour}
+use Rattle.opening.specs.Openings.{sellersGood, ownersGood, openingRefusal, marketOf}
+use Rattle.engine.specs.Openings.{freshHour, openedHour}
 use Rattle.engine.specs.declared.Hour.{Hour}
 use Rattle.engine.proofs.CaseT.{openingT, intervalT}
 use Rattle.text.specs.Numbers.{bytes, lines, number, magnitude, row}

@@ -15,9 +15,10 @@ use Rattle.curve.specs.declared.Refusal.the-variants.{StepCount, Edge, Price, P
 use Rattle.curve.proofs.CheckLaws.{then-both, unless-holds}
 use Rattle.interval.specs.declared.Interval.{Interval}
 use Rattle.engine.specs.Hours.{blankHour, hourRefusal, hourAfter, nextHour, unlessRefused}
-use Rattle.engine.specs.Openings.{openingRefusal, freshHour, hourUnless, openedHour}
+use Rattle.opening.specs.Openings.{openingRefusal}
+use Rattle.engine.specs.Openings.{freshHour, hourUnless, openedHour}
 use Rattle.engine.specs.declared.Hour.{Hour}
-use Rattle.engine.specs.declared.Opening.{Opening}
+use Rattle.opening.specs.declared.Opening.{Opening}
 use Rattle.text.specs.Numbers.{Line, bytes, lines}
 use Rattle.text.specs.Tables.{Reading, faulty, found}
 use Rattle.text.specs.Pages.{lineText, refusalText}

@@ -6,9 +6,10 @@ use lib.Dec.{leb, ltb}
 use lib.ListN.{length}
 use lib.Seq.{sets}
 use Rattle.interval.specs.declared.Interval.{Interval}
-use Rattle.engine.specs.Openings.{openingRefusal, openedHour}
+use Rattle.opening.specs.Openings.{openingRefusal}
+use Rattle.engine.specs.Openings.{openedHour}
 use Rattle.engine.specs.Hours.{hourRefusal, hourAfter, hourVerdicts}
-use Rattle.engine.specs.declared.Opening.{Opening}
+use Rattle.opening.specs.declared.Opening.{Opening}
 use Rattle.engine.specs.declared.Hour.{Hour}
 use Rattle.text.specs.Numbers.{Line, lines}
 use Rattle.text.specs.Tables.{Reading, faulty, found}

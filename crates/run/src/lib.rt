@@ -2,7 +2,7 @@
 use curve::Outcome;
 use engine::Hour;
 use interval::Interval;
-use openings::opening_at;
+use opening_part::opening_at;
 use parts::intervals::interval_at;
 use path::Verdict;
 use text::pages::Printed;

@@ -8,7 +8,8 @@ use lib.ListN.{length, drop}
 use lib.Seq.{sets, length-sets}
 use Rattle.curve.specs.Refusals.{outcomeNumber}
 use Rattle.curve.proofs.RefusalLaws.{refused-number}
-use Rattle.engine.specs.Openings.{openingRefusal, openedHour}
+use Rattle.opening.specs.Openings.{openingRefusal}
+use Rattle.engine.specs.Openings.{openedHour}
 use Rattle.engine.specs.declared.Hour.{Hour}
 use Rattle.text.specs.Numbers.{Line, lines}
 use Rattle.text.specs.Tables.{faulty, found}

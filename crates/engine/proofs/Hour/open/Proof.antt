@@ -1,88 +1,35 @@
 -- `engine::Hour::open` meets its contract. Assumes nothing.
-use mathlib.Core.Bool.{true}
-use mathlib.Core.Path.{_≡_, refl, sym, _∙_}
+use Prim.Native.Nat.{ℕ, zero, suc}
+use mathlib.Core.Path.{_≡_, refl, _∙_}
+use mathlib.Core.List.{List}
 use borrow.Author.Needs.{needs}
-use borrow.Author.Tests.{not-true, not-false}
-use Rattle.engine.specs.Openings.{countsGood, sellersGood, ownersGood, openedHour}
-use Rattle.engine.proofs.OpeningLaws.{in-room, refused-counts, refused-sellers, refused-owners, each-left}
+use Rattle.path.specs.declared.Market.{Market}
+use Rattle.resource.specs.declared.Row.{Row}
+use Rattle.opening.specs.Openings.{openingRefusal, marketOf, rowsOf, marketUnless, rowsUnless}
+use Rattle.opening.specs.declared.Opening.{Opening}
+use Rattle.engine.specs.Hours.{blankHour}
+use Rattle.engine.specs.Openings.{freshHour, hourUnless, openedHour}
+use Rattle.engine.specs.declared.Hour.{Hour}
 use Rattle.engine.proofs.Hour.open.Statement.{statement}
 use Rattle.engine.proofs.Hour.open.Tie as tie
 
--- what the tests so far have shown
-counts : (c : tie.Else1) → countsGood (c .before .before .args .o) ≡ true
-counts c = sym (c .before .counts-good .ensures) ∙ not-false _ (c .if1 .left)
+-- the hour of what the checks hand back
+entered : (o : Opening) (m : Market) (rows : List Row) → m ≡ marketUnless (openingRefusal o) (marketOf o) → rows ≡ rowsUnless (openingRefusal o) (rowsOf o)
+    → _≡_ {A = Hour} (record { accepted = 0; market = m; rows = rows }) (openedHour o)
+unfolding openedHour freshHour blankHour
+entered o m rows e f = rw (e, f) (go (openingRefusal o))
+  where
+    go : (n : ℕ) → _≡_ {A = Hour} (record { accepted = 0; market = marketUnless n (marketOf o); rows = rowsUnless n (rowsOf o) }) (hourUnless n (freshHour o))
+    go zero = refl
+    go (suc n) = refl
 
-sellers : (c : tie.Else2) → sellersGood (c .before .before .before .before .args .o) ≡ true
-sellers c = sym (c .before .sellers-good .ensures) ∙ not-false _ (c .if2 .left)
-
-owners : (c : tie.Else3) → ownersGood (c .before .before .before .before .before .before .args .o) ≡ true
-owners c = sym (c .before .owners-good .ensures) ∙ not-false _ (c .if3 .left)
-
-counts-good-requires : tie.Need-counts-good-requires
-counts-good-requires c κs = search needs
-
-refused-requires : tie.Need-refused-requires
-refused-requires c κs = search needs
+entered-requires : tie.Need-entered-requires
+entered-requires c κs = search needs
 
 returns : tie.Need-returns
-unfolding openedHour
 returns c =
-    let t = c .before in
-    let o = t .before .before .args .o in
-    rw (c .refused .ensures .0, c .refused .ensures .1, refused-counts o (sym (t .before .counts-good .ensures) ∙ not-true _ (t .if1 .taken))) (refl, refl)
-
-sellers-good-requires : tie.Need-sellers-good-requires
-sellers-good-requires c κs = in-room (c .before .before .args .o) (counts c) .0
-
-refused-requires-2 : tie.Need-refused-requires-2
-refused-requires-2 c κs = search needs
-
-returns-2 : tie.Need-returns-2
-unfolding openedHour
-returns-2 c =
-    let t = c .before in
-    let k = t .before .before in
-    let o = k .before .before .args .o in
-    rw (c .refused2 .ensures .0, c .refused2 .ensures .1, refused-sellers o (counts k) (sym (t .before .sellers-good .ensures) ∙ not-true _ (t .if2 .taken))) (refl, refl)
-
-owners-good-requires : tie.Need-owners-good-requires
-owners-good-requires c κs = in-room (c .before .before .before .before .args .o) (counts (c .before .before))
-
-refused-requires-3 : tie.Need-refused-requires-3
-refused-requires-3 c κs = search needs
-
-returns-3 : tie.Need-returns-3
-unfolding openedHour
-returns-3 c =
-    let t = c .before in
-    let u = t .before .before in
-    let k = u .before .before in
-    let o = k .before .before .args .o in
-    rw (c .refused3 .ensures .0, c .refused3 .ensures .1, refused-owners o (counts k) (sellers u) (sym (t .before .owners-good .ensures) ∙ not-true _ (t .if3 .taken))) (refl, refl)
-
-filled-requires : tie.Need-filled-requires
-filled-requires c κs = in-room (c .before .before .before .before .before .before .args .o) (counts (c .before .before .before .before))
-
-returns-4 : tie.Need-returns-4
-unfolding openedHour
-returns-4 c =
-    let t = c .before in
-    let u = t .before .before in
-    let k = u .before .before in
-    rw (each-left (k .before .before .args .o) (counts k) (sellers u) (owners t)) (c .filled .ensures)
+    let e = c .before .before .entered in
+    (e .ensures .0, entered (c .before .before .before .args .o) (e .result .market) (e .result .rows) (e .ensures .1 .0) (e .ensures .1 .1))
 
 pub open-spec : {M : Type 1} → statement M
-open-spec =
-    tie.close
-    (tie.spec
-    counts-good-requires
-    refused-requires
-    returns
-    sellers-good-requires
-    refused-requires-2
-    returns-2
-    owners-good-requires
-    refused-requires-3
-    returns-3
-    filled-requires
-    returns-4)
+open-spec = tie.close (tie.spec entered-requires returns)

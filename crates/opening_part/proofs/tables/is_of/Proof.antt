@@ -1,0 +1,23 @@
+-- `opening_part::tables::is_of` meets its contract. Assumes nothing.
+use Rattle.number.proofs.Kit.{came}
+use Rattle.text.proofs.IntegerLaws.{id-negative, id-cast, id-natural}
+use Rattle.opening_part.proofs.tables.is_of.Statement.{statement}
+use Rattle.opening_part.proofs.tables.is_of.Tie as tie
+
+returns : tie.Need-returns
+returns c =
+    let f = came (c .before .args .x) (c .before .fits .x .sfits) in
+    id-negative (c .before .args .r) (c .before .args .x) (rw f at (c .if1 .taken))
+
+cast-result : tie.Need-cast-result
+cast-result c =
+    let f = came (c .before .args .x) (c .before .fits .x .sfits) in
+    rw f (id-cast (c .before .args .x) (c .before .fits .x .sfits) (rw f at (c .if1 .left)))
+
+returns-2 : tie.Need-returns-2
+returns-2 c =
+    let f = came (c .before .args .x) (c .before .fits .x .sfits) in
+    rw f (id-natural (c .before .args .r) (c .before .args .x) (rw f at (c .if1 .left)))
+
+pub is-of-spec : {M : Type 1} → statement M
+is-of-spec = tie.close (tie.spec returns cast-result returns-2)

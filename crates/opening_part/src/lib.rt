@@ -1,0 +1,223 @@
+// The part of a text that opens an hour (paper 01, Text), read at an offset of a lent text into what the engine takes. The contracts cite specs/Shown and
+// the definitions of crate parts.
+mod tables;
+
+use crate::tables::Bids;
+use crate::tables::CostsRead;
+use crate::tables::Owners;
+use crate::tables::bids_at;
+use crate::tables::costs_at;
+use crate::tables::no_bid;
+use crate::tables::no_costs;
+use crate::tables::owners_at;
+use crate::tables::points_at;
+use cost::Costs;
+use curve::RawCurve;
+use engine::Hour;
+use opening::Opening;
+use parts::values::at_most_lines;
+use path::Market;
+use reader::row_of;
+use resource::Resource;
+use resource::Source;
+use text::lines::Found;
+use text::lines::line_is;
+use text::tables::Portfolios;
+use text::tables::portfolios_at;
+ghost use mathlib.Core.Path.{_≡_};
+ghost use mathlib.Core.List.{[]};
+ghost use Prim.Native.Nat.{_+_, _≤_, min};
+ghost use lib.ListN.{length, drop};
+ghost use Rattle.text.specs.Numbers.{lines};
+ghost use Rattle.parts.specs.Parts.{resourceOf, readOpening};
+ghost use Rattle.opening_part.specs.Shown.{joined, listFrom, openingFrom, readRest, shownOpening, faultAlone, aloneIf};
+
+// What reading the part that opens an hour answers: the opening, the number of its last line and the offset of the next, or the number of the faulty line.
+pub struct OpeningRead {
+    pub fault: usize,
+    pub opening: Opening,
+    pub line: usize,
+    pub next: usize,
+}
+
+// A resource whose values were read table by table.
+fn resource_of(portfolio: i64, start: i64, bid: RawCurve, points: Costs, prices: Costs) -> Resource
+    ensures { λ x. ⌜ x ≡ joined portfolio start bid points prices ⌝ }
+{
+    let steps = bid.steps;
+    let list = points.points;
+    let pack = no_bid();
+    Resource {
+        portfolio,
+        bid: RawCurve {
+            start,
+            count: bid.count,
+            steps,
+        },
+        source: Source::Costs,
+        costs: Costs {
+            count: points.count,
+            points: list,
+            gas: prices.gas,
+            rate: prices.rate,
+            allowance: prices.allowance,
+            om: prices.om,
+            msc: prices.msc,
+            soc: prices.soc,
+            fee: prices.fee,
+        },
+        pack,
+    }
+}
+
+fn no_resource() -> Resource
+    ensures { λ x. ⌜ x ≡ resourceOf [] [] [] [] ⌝ }
+{
+    resource_of(0, 0, no_bid(), no_costs(), no_costs())
+}
+
+// The first 64 resources.
+fn list_of(
+    owners: Owners,
+    bids: [RawCurve; Hour::MAX_RESOURCES],
+    points: [Costs; Hour::MAX_RESOURCES],
+    prices: [Costs; Hour::MAX_RESOURCES],
+) -> [Resource; Hour::MAX_RESOURCES]
+    ensures { λ l. ⌜ l ≡ listFrom owners bids points prices ⌝ }
+{
+    let portfolio = owners.portfolio;
+    let start = owners.start;
+    let mut list = [no_resource(); Hour::MAX_RESOURCES];
+    let mut k: usize = 0;
+    while k < Hour::MAX_RESOURCES {
+        let bid = bids[k];
+        let heat = points[k];
+        let price = prices[k];
+        let owner = portfolio[k];
+        let from = start[k];
+        let resource = resource_of(owner, from, bid, heat, price);
+        list[k] = resource;
+        k += 1;
+    }
+    list
+}
+
+// The opening of its six tables.
+fn opening_of(
+    month: i64,
+    portfolios: Portfolios,
+    owners: Owners,
+    steps: Bids,
+    heat: CostsRead,
+    costs: CostsRead,
+) -> Opening
+    ensures { λ o. ⌜ o ≡ openingFrom month portfolios owners (steps .bids) (heat .costs) (costs .costs) ⌝ }
+{
+    let sellers = portfolios.sellers;
+    let bids = steps.bids;
+    let points = heat.costs;
+    let prices = costs.costs;
+    let list = list_of(owners, bids, points, prices);
+    Opening {
+        month,
+        portfolios: portfolios.count,
+        sellers,
+        resources: owners.count,
+        list,
+    }
+}
+
+// A faulty line's number alone: the opening is blank.
+fn no_opening(fault: usize) -> OpeningRead
+    ensures { λ r. ⌜ r ≡ faultAlone fault ⌝ }
+{
+    OpeningRead {
+        fault,
+        opening: Opening {
+            month: 0,
+            portfolios: 0,
+            sellers: [0; Market::MAX_PORTFOLIOS],
+            resources: 0,
+            list: [no_resource(); Hour::MAX_RESOURCES],
+        },
+        line: 0,
+        next: 0,
+    }
+}
+
+// The steps, points and costs at an offset before which n lines stand.
+fn rest_at(
+    s: &[u8],
+    at: usize,
+    n: usize,
+    month: i64,
+    portfolios: Portfolios,
+    owners: Owners,
+) -> OpeningRead
+    requires { ⌜ n + length (lines (drop at (now s))) ≤ 66000 + length (now s) ⌝ }
+    ensures reading { λ r. ⌜ shownOpening (now (s .entry)) r ≡ readRest month portfolios owners n (lines (drop at (now (s .entry)))) ⌝ }
+    ensures refusal { λ r. ⌜ r ≡ aloneIf (r .fault) r ⌝ }
+{
+    let m = owners.count;
+    let Found::At(at) = line_is(s, at, b"resource end price\n") else {
+        return no_opening(n + 1);
+    };
+    let steps = bids_at(s, at, m, n + 1);
+    let Found::At(at) = line_is(s, steps.next, b"resource mw heat\n") else {
+        return no_opening(steps.line + 1);
+    };
+    let heat = points_at(s, at, m, steps.line + 1);
+    let Found::At(at) = line_is(
+        s,
+        heat.next,
+        b"resource gas rate allowance om msc soc fee\n",
+    ) else {
+        return no_opening(heat.line + 1);
+    };
+    let costs = costs_at(s, at, m, heat.line + 1);
+    let fault = costs.fault;
+    if fault != 0 {
+        return no_opening(fault);
+    }
+    OpeningRead {
+        fault: 0,
+        opening: opening_of(month, portfolios, owners, steps, heat, costs),
+        line: costs.line,
+        next: costs.next,
+    }
+}
+
+// The part that opens an hour, at an offset before which `line` lines stand.
+pub fn opening_at(s: &[u8], at: usize, line: usize) -> OpeningRead
+    ensures reading { λ r. ⌜ shownOpening (now (s .entry)) r ≡ readOpening (min line 65536) (lines (drop at (now (s .entry)))) ⌝ }
+    ensures refusal { λ r. ⌜ r ≡ aloneIf (r .fault) r ⌝ }
+{
+    let line = at_most_lines(line);
+    let Found::At(at) = line_is(s, at, b"month\n") else {
+        return no_opening(line + 1);
+    };
+    let line = line + 1;
+    let row = row_of(s, at, 1);
+    let month = row.v;
+    if !row.ok {
+        return no_opening(line + 1);
+    }
+    let line = line + 1;
+    let Found::At(at) = line_is(s, row.next, b"portfolio seller\n") else {
+        return no_opening(line + 1);
+    };
+    let portfolios = portfolios_at(s, at);
+    let line = line + 1 + portfolios.count;
+    let Found::At(at) = line_is(s, portfolios.next, b"resource portfolio start\n") else {
+        return no_opening(line + 1);
+    };
+    let owners = owners_at(s, at);
+    rest_at(
+        s,
+        owners.next,
+        line + 1 + owners.count,
+        month[0],
+        portfolios,
+        owners,
+    )
+}

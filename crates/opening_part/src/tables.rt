@@ -1,0 +1,328 @@
+// The tables of the part that opens an hour. The contracts cite specs/Shown and the definitions of crate parts.
+use cost::Costs;
+use cost::Point;
+use curve::Curve;
+use curve::RawCurve;
+use curve::RawStep;
+use engine::Hour;
+use text::lines::Row;
+use text::lines::id_row_at;
+use text::lines::row_at;
+ghost use mathlib.Core.Path.{_≡_};
+ghost use mathlib.Core.List.{[], map};
+ghost use Prim.Native.Nat.{_+_, _≤_};
+ghost use lib.ListN.{length, drop};
+ghost use lib.IntN.{pos};
+ghost use Rattle.number.specs.Order.{eqZ};
+ghost use Rattle.text.specs.Numbers.{lines};
+ghost use Rattle.text.specs.Tables.{cell, counting, found, grouped, pairs, each};
+ghost use Rattle.text.specs.Offsets.{kept, rowAt};
+ghost use Rattle.parts.specs.Parts.{bidOf, costsOf};
+ghost use Rattle.parts.specs.Shown.{reading};
+ghost use Rattle.opening_part.specs.Shown.{withSteps, withPoints, keeping};
+
+// The resource table: how many lines it has, the portfolios and starts of the first 64, and the offset of the line after it.
+pub(crate) struct Owners {
+    pub(crate) count: usize,
+    pub(crate) portfolio: [i64; Hour::MAX_RESOURCES],
+    pub(crate) start: [i64; Hour::MAX_RESOURCES],
+    pub(crate) next: usize,
+}
+
+// A resource's steps, with the line after them and its offset.
+struct Steps {
+    bid: RawCurve,
+    row: Row,
+    next: usize,
+}
+
+// A resource's points, with the line after them and its offset.
+struct Points {
+    costs: Costs,
+    row: Row,
+    next: usize,
+}
+
+// The bids of the first 64 resources, without their starts.
+pub(crate) struct Bids {
+    pub(crate) bids: [RawCurve; Hour::MAX_RESOURCES],
+    pub(crate) line: usize,
+    pub(crate) next: usize,
+}
+
+// The costs of the first 64 resources.
+pub(crate) struct CostsRead {
+    pub(crate) fault: usize,
+    pub(crate) costs: [Costs; Hour::MAX_RESOURCES],
+    pub(crate) line: usize,
+    pub(crate) next: usize,
+}
+
+// The resource table's lines of values at an offset.
+pub(crate) fn owners_at(s: &[u8], at: usize) -> Owners
+    ensures { λ r. ⌜ r .count ≡ length (counting 3 (lines (drop at (now (s .entry))))) ⌝ }
+    ensures { λ r. ⌜ r .portfolio ≡ kept 64 (pos 0) (map (cell 1) (counting 3 (lines (drop at (now (s .entry)))))) ⌝ }
+    ensures { λ r. ⌜ r .start ≡ kept 64 (pos 0) (map (cell 2) (counting 3 (lines (drop at (now (s .entry)))))) ⌝ }
+    ensures { λ r. ⌜ lines (drop (r .next) (now (s .entry))) ≡ drop (r .count) (lines (drop at (now (s .entry)))) ⌝ }
+{
+    let mut portfolio = [0i64; Hour::MAX_RESOURCES];
+    let mut start = [0i64; Hour::MAX_RESOURCES];
+    let mut count = 0;
+    let mut next = at;
+    loop {
+        let row = id_row_at(s, next, 3, count);
+        let v = row.v;
+        if !row.ok {
+            return Owners {
+                count,
+                portfolio,
+                start,
+                next,
+            };
+        }
+        if count < Hour::MAX_RESOURCES {
+            portfolio[count] = v[1];
+            start[count] = v[2];
+        }
+        count += 1;
+        next = row.next;
+    }
+}
+
+// Whether a value is the id of resource r.
+fn is_of(r: usize, x: i64) -> bool
+    ensures { λ b. ⌜ b ≡ eqZ (pos r) x ⌝ }
+{
+    if x < 0 {
+        return false;
+    }
+    r == x as u64 as usize
+}
+
+// A bid with its steps alone.
+fn with_steps(count: usize, steps: [RawStep; Curve::MAX_STEPS]) -> RawCurve
+    ensures { λ r. ⌜ r ≡ withSteps count steps ⌝ }
+{
+    RawCurve {
+        start: 0,
+        count,
+        steps,
+    }
+}
+
+// The steps of resource r, from the line at an offset on, which is read already.
+fn steps_of(s: &[u8], at: usize, first: Row, r: usize) -> Steps
+    requires { ⌜ first ≡ rowAt (now s) at 3 ⌝ }
+    ensures { λ g. ⌜ g .bid ≡ bidOf (pos 0) (pairs r (lines (drop at (now (s .entry))))) ⌝ }
+    ensures { λ g. ⌜ g .row ≡ rowAt (now (s .entry)) (g .next) 3 ⌝ }
+    ensures { λ g. ⌜ lines (drop (g .next) (now (s .entry))) ≡ drop (g .bid .count) (lines (drop at (now (s .entry)))) ⌝ }
+{
+    let mut steps = [RawStep { end: 0, price: 0 }; Curve::MAX_STEPS];
+    let mut count = 0;
+    let mut next = at;
+    let mut row = first;
+    while row.ok {
+        let v = row.v;
+        if !is_of(r, v[0]) {
+            return Steps {
+                bid: with_steps(count, steps),
+                row,
+                next,
+            };
+        }
+        if count < Curve::MAX_STEPS {
+            let step = RawStep {
+                end: v[1],
+                price: v[2],
+            };
+            steps[count] = step;
+        }
+        count += 1;
+        next = row.next;
+        let after = row_at(s, next, 3);
+        row = after;
+    }
+    Steps {
+        bid: with_steps(count, steps),
+        row,
+        next,
+    }
+}
+
+// Costs with their points alone.
+fn with_points(count: usize, points: [Point; Costs::MAX_POINTS]) -> Costs
+    ensures { λ r. ⌜ r ≡ withPoints count points ⌝ }
+{
+    Costs {
+        count,
+        points,
+        gas: 0,
+        rate: 0,
+        allowance: 0,
+        om: 0,
+        msc: 0,
+        soc: 0,
+        fee: 0,
+    }
+}
+
+pub(crate) fn no_costs() -> Costs
+    ensures { λ r. ⌜ r ≡ costsOf [] [] ⌝ }
+{
+    with_points(0, [Point { mw: 0, heat: 0 }; Costs::MAX_POINTS])
+}
+
+pub(crate) fn no_bid() -> RawCurve
+    ensures { λ r. ⌜ r ≡ bidOf (pos 0) [] ⌝ }
+{
+    with_steps(0, [RawStep { end: 0, price: 0 }; Curve::MAX_STEPS])
+}
+
+// The points of resource r, from the line at an offset on, which is read already.
+fn points_of(s: &[u8], at: usize, first: Row, r: usize) -> Points
+    requires { ⌜ first ≡ rowAt (now s) at 3 ⌝ }
+    ensures { λ g. ⌜ g .costs ≡ costsOf (pairs r (lines (drop at (now (s .entry))))) [] ⌝ }
+    ensures { λ g. ⌜ g .row ≡ rowAt (now (s .entry)) (g .next) 3 ⌝ }
+    ensures { λ g. ⌜ lines (drop (g .next) (now (s .entry))) ≡ drop (g .costs .count) (lines (drop at (now (s .entry)))) ⌝ }
+{
+    let mut points = [Point { mw: 0, heat: 0 }; Costs::MAX_POINTS];
+    let mut count = 0;
+    let mut next = at;
+    let mut row = first;
+    while row.ok {
+        let v = row.v;
+        if !is_of(r, v[0]) {
+            return Points {
+                costs: with_points(count, points),
+                row,
+                next,
+            };
+        }
+        if count < Costs::MAX_POINTS {
+            let point = Point {
+                mw: v[1],
+                heat: v[2],
+            };
+            points[count] = point;
+        }
+        count += 1;
+        next = row.next;
+        let after = row_at(s, next, 3);
+        row = after;
+    }
+    Points {
+        costs: with_points(count, points),
+        row,
+        next,
+    }
+}
+
+// The steps of m resources at an offset before which n lines stand.
+pub(crate) fn bids_at(s: &[u8], at: usize, m: usize, n: usize) -> Bids
+    requires { ⌜ n + length (lines (drop at (now s))) ≤ 70000 + length (now s) ⌝ }
+    ensures { λ r. ⌜ found (r .bids) (r .line) (lines (drop (r .next) (now (s .entry)))) ≡ keeping 64 (bidOf (pos 0) []) (bidOf (pos 0)) (grouped pairs m 0 n (lines (drop at (now (s .entry))))) ⌝ }
+    ensures { λ r. ⌜ r .line + length (lines (drop (r .next) (now (s .entry)))) ≤ n + length (lines (drop at (now (s .entry)))) ⌝ }
+{
+    let mut bids = [no_bid(); Hour::MAX_RESOURCES];
+    let mut line = n;
+    let mut next = at;
+    let mut row = row_at(s, at, 3);
+    let mut r = 0;
+    while r < m {
+        let group = steps_of(s, next, row, r);
+        let bid = group.bid;
+        if r < Hour::MAX_RESOURCES {
+            bids[r] = bid;
+        }
+        line += bid.count;
+        next = group.next;
+        let after = group.row;
+        row = after;
+        r += 1;
+    }
+    Bids { bids, line, next }
+}
+
+// The points of m resources at an offset before which n lines stand.
+pub(crate) fn points_at(s: &[u8], at: usize, m: usize, n: usize) -> CostsRead
+    requires { ⌜ n + length (lines (drop at (now s))) ≤ 70000 + length (now s) ⌝ }
+    ensures { λ r. ⌜ found (r .costs) (r .line) (lines (drop (r .next) (now (s .entry)))) ≡ keeping 64 (costsOf [] []) (λ xs. costsOf xs []) (grouped pairs m 0 n (lines (drop at (now (s .entry))))) ⌝ }
+    ensures { λ r. ⌜ r .line + length (lines (drop (r .next) (now (s .entry)))) ≤ n + length (lines (drop at (now (s .entry)))) ⌝ }
+{
+    let mut costs = [no_costs(); Hour::MAX_RESOURCES];
+    let mut line = n;
+    let mut next = at;
+    let mut row = row_at(s, at, 3);
+    let mut r = 0;
+    while r < m {
+        let group = points_of(s, next, row, r);
+        let one = group.costs;
+        if r < Hour::MAX_RESOURCES {
+            costs[r] = one;
+        }
+        line += one.count;
+        next = group.next;
+        let after = group.row;
+        row = after;
+        r += 1;
+    }
+    CostsRead {
+        fault: 0,
+        costs,
+        line,
+        next,
+    }
+}
+
+// Costs with the prices, rates and fee of a cost line alone.
+fn priced(v: [i64; 8]) -> Costs
+    ensures { λ r. ⌜ r ≡ costsOf [] v ⌝ }
+{
+    Costs {
+        count: 0,
+        points: [Point { mw: 0, heat: 0 }; Costs::MAX_POINTS],
+        gas: v[1],
+        rate: v[2],
+        allowance: v[3],
+        om: v[4],
+        msc: v[5],
+        soc: v[6],
+        fee: v[7],
+    }
+}
+
+// The cost lines of m resources at an offset before which n lines stand.
+pub(crate) fn costs_at(s: &[u8], at: usize, m: usize, n: usize) -> CostsRead
+    requires { ⌜ n + length (lines (drop at (now s))) ≤ 70000 + length (now s) ⌝ }
+    ensures { λ r. ⌜ reading (now (s .entry)) (r .fault) (r .costs) (r .line) (r .next) ≡ keeping 64 (costsOf [] []) (costsOf []) (each 8 m 0 n (lines (drop at (now (s .entry))))) ⌝ }
+{
+    let mut costs = [no_costs(); Hour::MAX_RESOURCES];
+    let mut line = n;
+    let mut next = at;
+    let mut r = 0;
+    while r < m {
+        let row = id_row_at(s, next, 8, r);
+        let v = row.v;
+        line += 1;
+        if !row.ok {
+            return CostsRead {
+                fault: line,
+                costs,
+                line: 0,
+                next: 0,
+            };
+        }
+        let one = priced(v);
+        if r < Hour::MAX_RESOURCES {
+            costs[r] = one;
+        }
+        next = row.next;
+        r += 1;
+    }
+    CostsRead {
+        fault: 0,
+        costs,
+        line,
+        next,
+    }
+}
