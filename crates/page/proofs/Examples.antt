@@ -25,7 +25,7 @@ use Rattle.engine.specs.Openings.{freshHour, openedHour}
 use Rattle.engine.specs.declared.Hour.{Hour}
 use Rattle.engine.proofs.CaseT.{openingT, intervalT}
 use Rattle.text.specs.Numbers.{Row, bytes}
-use Rattle.text.specs.Pages.{digits, decimal, lineText, groupText, tableText, refusalText}
+use Rattle.print.specs.Printing.{digits, decimal, lineText, groupText, tableText, refusalText}
 use Rattle.page.specs.Pages.{shown, stepRow, sellersNamed, curveRows, verdictNames, sellerNames, curveNames, verdictTable, sellerTable, curveTable, pageText}
 use Rattle.resource.specs.Resources.{liesInside, resourceRefusal, rowOf}
 

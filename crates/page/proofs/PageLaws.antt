@@ -17,11 +17,10 @@ use Rattle.path.specs.declared.Finding.{Finding}
 use Rattle.path.specs.declared.Finding.the-variants.{Competitive, NonCompetitive, NotBinding}
 use Rattle.path.specs.declared.Verdict.{Verdict}
 use Rattle.page.specs.Pages.{printable, sellerRow, sellersNamed, hasRoom, putWithin, putWithinTo}
-use Rattle.text.specs.Pages.{decimal, lineText, groupText, tableText}
-use Rattle.text.specs.Offsets.{printed, printedTo}
-use Rattle.text.specs.declared.pages.Printed.{Printed}
-use Rattle.text.specs.declared.pages.Printed.the-variants.{To, Full}
-use Rattle.text.proofs.PrintLaws.{decimal-few}
+use Rattle.print.specs.Printing.{decimal, lineText, groupText, tableText, printed, printedTo}
+use Rattle.print.specs.declared.Printed.{Printed}
+use Rattle.print.specs.declared.Printed.the-variants.{To, Full}
+use Rattle.print.proofs.PrintLaws.{decimal-few}
 use Rattle.text.proofs.ListLaws.{at-cons, sets-append}
 
 -- a line has at most 21 bytes for each value

@@ -18,9 +18,9 @@ use Rattle.engine.specs.Hours.{rowCurve}
 use Rattle.resource.specs.declared.Row as engine
 use Rattle.engine.specs.declared.Hour.{Hour}
 use Rattle.text.specs.Numbers.{Row, bytes}
-use Rattle.text.specs.Pages.{tableText}
-use Rattle.text.specs.declared.pages.Printed.{Printed}
-use Rattle.text.specs.declared.pages.Printed.the-variants.{To, Full}
+use Rattle.print.specs.Printing.{tableText}
+use Rattle.print.specs.declared.Printed.{Printed}
+use Rattle.print.specs.declared.Printed.the-variants.{To, Full}
 
 -- a quantity as it is printed: one past 63 bits, which the paper's limits rule out, as the largest number of 63 bits
 abbrev pub printable : ℕ → ℕ

@@ -5,8 +5,8 @@ use mitigation::Mitigated;
 use path::Finding;
 use path::Market;
 use path::Verdict;
+use print::Printed;
 use resource::Row;
-use text::pages::Printed;
 ghost use mathlib.Core.Path.{_≡_};
 ghost use mathlib.Core.List.{_∷_, [], map};
 ghost use Prim.Native.Nat.{_+_, _<_, _≤_, min};
@@ -15,7 +15,7 @@ ghost use lib.IntN.{pos};
 ghost use lib.ListN.{length};
 ghost use lib.Seq.{sets};
 ghost use Rattle.mitigation.specs.Mitigation.{usedSteps};
-ghost use Rattle.text.specs.Pages.{lineText, groupText, refusalText};
+ghost use Rattle.print.specs.Printing.{lineText, groupText, refusalText};
 ghost use Rattle.page.specs.Pages.{printable as printableOf};
 ghost use Rattle.page.specs.Pages.{shown as shownOf};
 ghost use Rattle.page.specs.Pages.{stepRow, verdictRow, sellersNamed, verdictTable, sellerTable, curveTable, pageText, Put, pageRoom, refusalRoom, putWithin, putWithinTo};
@@ -56,7 +56,7 @@ fn put_names(out: &mut [u8], at: usize, names: &[u8]) -> usize
     requires { ⌜ at + length (now names) ≤ length (now out) ⌝ }
     ensures { λ r. ⌜ (now (out .exit) ≡ sets (now (out .entry)) at (now (names .entry))) × (r ≡ at + length (now (names .entry))) ⌝ }
 {
-    match text::pages::print_names(out, at, names) {
+    match print::print_names(out, at, names) {
         Printed::To(next) => next,
         Printed::Full => at,
     }
@@ -68,7 +68,7 @@ fn put_four(out: &mut [u8], at: usize, a: u64, b: u64, c: u64, d: i64) -> usize
     ensures { λ r. ⌜ Put 84 (now (out .entry)) at (lineText (pos (printableOf a) ∷ pos (printableOf b) ∷ pos (printableOf c) ∷ d ∷ [])) (now (out .exit)) r ⌝ }
 {
     let row = [printable(a), printable(b), printable(c), d, 0];
-    match text::pages::print_line(out, at, row, 4) {
+    match print::print_line(out, at, row, 4) {
         Printed::To(next) => next,
         Printed::Full => at,
     }
@@ -115,7 +115,7 @@ fn put_verdict(out: &mut [u8], at: usize, i: u64, c: u64, v: Verdict) -> usize
         printable(v.demand),
         printable(v.left),
     ];
-    match text::pages::print_line(out, at, row, 5) {
+    match print::print_line(out, at, row, 5) {
         Printed::To(next) => next,
         Printed::Full => at,
     }
@@ -240,5 +240,5 @@ pub fn print_refusal(out: &mut [u8], at: usize, number: u64, line: u64) -> Print
     }
     let next = put_names(out, at, b"refusal line\n");
     let row = [printable(number), printable(line), 0, 0, 0];
-    text::pages::print_line(out, next, row, 2)
+    print::print_line(out, next, row, 2)
 }

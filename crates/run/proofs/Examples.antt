@@ -20,7 +20,7 @@ use Rattle.engine.proofs.CaseT.{openingT, intervalT}
 use Rattle.text.specs.Numbers.{bytes, lines, number, magnitude, row}
 use Rattle.text.specs.Tables.{found, headed, due, single, run, rows, counted, grouped, pairs, each}
 use Rattle.text.specs.Offsets.{kept}
-use Rattle.text.specs.Pages.{digits, decimal, lineText, refusalText}
+use Rattle.print.specs.Printing.{digits, decimal, lineText, refusalText}
 use Rattle.parts.specs.Parts.{resourcesOf, openingOf, readOpening, readInterval}
 use Rattle.parts.proofs.Examples.{opening-read, interval-text, reads-interval}
 use Rattle.page.proofs.Examples.{case-T as page-T}

@@ -10,7 +10,7 @@ use Rattle.engine.specs.Hours.{hourRefusal, hourAfter}
 use Rattle.engine.specs.declared.Hour.{Hour}
 use Rattle.text.specs.Numbers.{Line, lines}
 use Rattle.text.specs.Tables.{Reading, faulty, found}
-use Rattle.text.specs.Pages.{refusalText}
+use Rattle.print.specs.Printing.{refusalText}
 use Rattle.text.proofs.LineLaws.{lines-some}
 use Rattle.parts.specs.Parts.{readInterval}
 use Rattle.parts.specs.Shown.{reading}

@@ -11,7 +11,7 @@ use Rattle.engine.specs.declared.Hour.{Hour}
 use Rattle.interval.specs.declared.Interval.{Interval}
 use Rattle.text.specs.Numbers.{Line, bytes, lines}
 use Rattle.text.specs.Tables.{Reading, faulty, found}
-use Rattle.text.specs.Pages.{digits, decimal, lineText, refusalText}
+use Rattle.print.specs.Printing.{digits, decimal, lineText, refusalText}
 use Rattle.parts.specs.Parts.{readInterval}
 use Rattle.run.specs.Run.{part, answer, pageOf, intervals, partsText, output}
 use Rattle.run.proofs.RunLaws.{accepts-few, accepts-counts}

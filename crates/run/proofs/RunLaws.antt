@@ -21,13 +21,13 @@ use Rattle.engine.specs.declared.Hour.{Hour}
 use Rattle.opening.specs.declared.Opening.{Opening}
 use Rattle.text.specs.Numbers.{Line, bytes, lines}
 use Rattle.text.specs.Tables.{Reading, faulty, found}
-use Rattle.text.specs.Pages.{lineText, refusalText}
+use Rattle.print.specs.Printing.{lineText, refusalText}
 use Rattle.parts.specs.Parts.{readOpening, readInterval}
 use Rattle.run.specs.Run.{part, answer, pageOf, intervals, hourText, partsText, output, ranWithin, ranTo}
 use Rattle.run.specs.declared.Ran.the-variants as ran
 use Rattle.run.proofs.CountLaws.{Uses, opening-using}
-use Rattle.text.specs.declared.pages.Printed.{Printed}
-use Rattle.text.specs.declared.pages.Printed.the-variants.{To, Full}
+use Rattle.print.specs.declared.Printed.{Printed}
+use Rattle.print.specs.declared.Printed.the-variants.{To, Full}
 use Rattle.page.specs.Pages.{putWithin, putWithinTo}
 use Rattle.page.proofs.PageLaws.{line-few}
 

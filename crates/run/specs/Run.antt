@@ -13,7 +13,7 @@ use Rattle.opening.specs.declared.Opening.{Opening}
 use Rattle.engine.specs.declared.Hour.{Hour}
 use Rattle.text.specs.Numbers.{Line, lines}
 use Rattle.text.specs.Tables.{Reading, faulty, found}
-use Rattle.text.specs.Pages.{refusalText}
+use Rattle.print.specs.Printing.{refusalText}
 use Rattle.parts.specs.Parts.{readOpening, readInterval}
 use Rattle.page.specs.Pages.{pageText}
 use Rattle.run.specs.declared.Ran.{Ran}

@@ -5,13 +5,13 @@ use interval::Interval;
 use opening_part::opening_at;
 use parts::intervals::interval_at;
 use path::Verdict;
-use text::pages::Printed;
+use print::Printed;
 ghost use mathlib.Core.Path.{_≡_};
 ghost use Prim.Native.Nat.{_+_, _≤_, _<_};
 ghost use lib.ListN.{length, drop};
 ghost use lib.Seq.{sets};
 ghost use Rattle.text.specs.Numbers.{lines};
-ghost use Rattle.text.specs.Pages.{refusalText};
+ghost use Rattle.print.specs.Printing.{refusalText};
 ghost use Rattle.page.specs.Pages.{pageText};
 ghost use Rattle.run.specs.Run.{hourText, partsText, output, runRoom, ranWithin, ranTo};
 

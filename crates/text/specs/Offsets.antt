@@ -1,4 +1,4 @@
--- What stands at an offset of a text, and what a buffer holds, as the code answers it.
+-- What stands at an offset of a text, as the code answers it.
 use Prim.Native.Nat.{ℕ, _+_}
 use mathlib.Core.List.{List, []}
 use mathlib.Core.Option.{Option, none, some}
@@ -14,8 +14,6 @@ use Rattle.text.specs.declared.numbers.Number.the-variants.{Is, Not}
 use Rattle.text.specs.declared.lines.Row as source
 use Rattle.text.specs.declared.lines.Found.{Found}
 use Rattle.text.specs.declared.lines.Found.the-variants.{At, Nothing}
-use Rattle.text.specs.declared.pages.Printed.{Printed}
-use Rattle.text.specs.declared.pages.Printed.the-variants.{To, Full}
 
 abbrev pub shifted : ℕ → Number → Number
 shifted p Not = Not
@@ -53,16 +51,3 @@ rowAt = rowOf (λ o. o)
 -- the same, where its first value is the id n
 abbrev pub idRowAt : ℕ → List ℕ → ℕ → ℕ → source.Row
 idRowAt n = rowOf (ifSuits (hasId n))
-
--- ---- a text put into a buffer at an offset
--- whether it fits
-abbrev pub holds : List ℕ → ℕ → List ℕ → Bool
-holds out at text = leb (at + length text) (length out)
-
--- the buffer afterwards, in which nothing is changed where the text does not fit
-unfoldable pub printed : List ℕ → ℕ → List ℕ → List ℕ
-printed out at text = cond (holds out at text) (sets out at text) out
-
--- the offset after the text, where it fits
-unfoldable pub printedTo : List ℕ → ℕ → List ℕ → Printed
-printedTo out at text = cond (holds out at text) (To (at + length text)) Full

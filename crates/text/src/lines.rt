@@ -55,7 +55,7 @@ fn byte_at(s: &[u8], at: usize) -> u8
 }
 
 // What closes a number that k others follow in its line.
-pub(crate) fn closing(k: usize) -> u8
+pub fn closing(k: usize) -> u8
     ensures { λ r. ⌜ r ≡ Numbers·closing k ⌝ }
 {
     if k == 0 { 10 } else { 32 }

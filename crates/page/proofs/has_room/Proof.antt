@@ -1,5 +1,5 @@
 -- `page::has_room` meets its contract. Assumes nothing.
-use Rattle.text.proofs.PrintLaws.{room-none, room-some}
+use Rattle.print.proofs.PrintLaws.{room-none, room-some}
 use Rattle.page.proofs.has_room.Statement.{statement}
 use Rattle.page.proofs.has_room.Tie as tie
 

@@ -9,8 +9,7 @@ use lib.ListN.{length}
 use lib.IntN.{pos}
 use Rattle.number.proofs.Kit.{came}
 use Rattle.text.specs.Numbers.{Row, bytes}
-use Rattle.text.specs.Pages.{lineText, refusalText}
-use Rattle.text.specs.Offsets.{printed, printedTo}
+use Rattle.print.specs.Printing.{lineText, refusalText, printed, printedTo}
 use Rattle.page.specs.Pages.{printable, refusalRoom, hasRoom}
 use Rattle.page.proofs.PageLaws.{Putting, putting-start, putting-next, putting-done, within-none, within-some, put-both, line-few}
 use borrow.Author.Needs.{needs}

@@ -6,8 +6,7 @@ use native.Mathlib.Omega.{arith}
 use lib.ListN.{length}
 use lib.IntN.{pos}
 use Rattle.number.proofs.Kit.{came}
-use Rattle.text.specs.Pages.{lineText}
-use Rattle.text.specs.Offsets.{printed, printedTo}
+use Rattle.print.specs.Printing.{lineText, printed, printedTo}
 use Rattle.page.specs.Pages.{printable}
 use Rattle.page.proofs.PageLaws.{line-few, put-to, put-full}
 use borrow.Author.Needs.{needs}

@@ -9,7 +9,7 @@ use lib.ListN.{length, drop, getD, length-map}
 use lib.Seq.{sets}
 use lib.IntN.{pos}
 use Rattle.number.proofs.Kit.{came}
-use Rattle.text.specs.Pages.{groupText, lineText}
+use Rattle.print.specs.Printing.{groupText, lineText}
 use Rattle.page.specs.Pages.{printable, sellerRow, sellersNamed}
 use Rattle.page.proofs.PageLaws.{Putting, namedFrom, named-all, putting-start, putting-next, putting-done, named-yes, named-no, named-done, small-printable}
 use Rattle.page.proofs.put_named.Statement.{statement}

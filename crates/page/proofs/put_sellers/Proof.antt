@@ -8,7 +8,7 @@ use lib.ListN.{length, drop, take, getD}
 use lib.Seq.{sets}
 use Rattle.number.proofs.OverLaws.{taken-at}
 use Rattle.path.specs.declared.Verdict.{Verdict}
-use Rattle.text.specs.Pages.{groupText, tableText}
+use Rattle.print.specs.Printing.{groupText, tableText}
 use Rattle.page.specs.Pages.{printable, sellerRows, sellerTable, shown}
 use Rattle.page.proofs.PageLaws.{Putting, putting-start, putting-next, putting-done, table-next, table-done, taken-length, noVerdict}
 use Rattle.page.proofs.put_sellers.Statement.{statement}

@@ -12,7 +12,7 @@ use Rattle.number.proofs.OverLaws.{taken-at}
 use Rattle.curve.specs.Curves.{blankStep}
 use Rattle.curve.specs.declared.Step.{Step}
 use Rattle.mitigation.specs.Mitigation.{usedSteps}
-use Rattle.text.specs.Pages.{lineText, groupText}
+use Rattle.print.specs.Printing.{lineText, groupText}
 use Rattle.page.specs.Pages.{printable, stepRow}
 use Rattle.page.proofs.PageLaws.{Putting, putting-start, putting-next, putting-done, group-next, group-done, taken-length, small-printable}
 use Rattle.page.proofs.put_steps.Statement.{statement}

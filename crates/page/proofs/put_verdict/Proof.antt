@@ -7,8 +7,7 @@ use lib.ListN.{length}
 use lib.IntN.{pos}
 use Rattle.number.proofs.Kit.{came}
 use Rattle.path.specs.Verdicts.{findingNumber}
-use Rattle.text.specs.Pages.{lineText}
-use Rattle.text.specs.Offsets.{printed, printedTo}
+use Rattle.print.specs.Printing.{lineText, printed, printedTo}
 use Rattle.page.specs.Pages.{printable, verdictRow}
 use Rattle.page.proofs.PageLaws.{line-few, put-to, put-full, small-printable, finding-small}
 use borrow.Author.Needs.{needs}

@@ -13,7 +13,7 @@ use Rattle.interval.specs.declared.Interval.{Interval}
 use Rattle.path.specs.declared.Verdict.{Verdict}
 use Rattle.engine.specs.Hours.{hourRefusal, hourAfter, hourVerdicts}
 use Rattle.engine.specs.declared.Hour.{Hour}
-use Rattle.text.specs.Pages.{refusalText}
+use Rattle.print.specs.Printing.{refusalText}
 use Rattle.parts.specs.Parts.{readInterval}
 use Rattle.parts.specs.Shown.{reading}
 use Rattle.curve.proofs.RefusalLaws.{refused-number}

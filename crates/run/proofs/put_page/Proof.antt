@@ -1,6 +1,6 @@
 -- `run::put_page` meets its contract. Assumes nothing.
 use Rattle.page.specs.Pages.{printable, pageText, pageRoom, refusalRoom}
-use Rattle.text.specs.Pages.{refusalText}
+use Rattle.print.specs.Printing.{refusalText}
 use native.Mathlib.Omega.{arith}
 use Rattle.run.proofs.RunLaws.{put-to, put-full}
 use borrow.Author.Needs.{needs}

@@ -13,7 +13,7 @@ use Rattle.engine.specs.Openings.{openedHour}
 use Rattle.engine.specs.declared.Hour.{Hour}
 use Rattle.text.specs.Numbers.{Line, lines}
 use Rattle.text.specs.Tables.{faulty, found}
-use Rattle.text.specs.Pages.{refusalText}
+use Rattle.print.specs.Printing.{refusalText}
 use Rattle.text.proofs.LineLaws.{lines-few}
 use Rattle.parts.specs.Parts.{readOpening}
 use Rattle.run.specs.Run.{hourText, partsText}

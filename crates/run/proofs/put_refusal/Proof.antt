@@ -6,7 +6,7 @@ use native.Mathlib.Omega.{arith}
 use lib.ListN.{length}
 use lib.Seq.{sets}
 use Rattle.page.specs.Pages.{printable, refusalRoom}
-use Rattle.text.specs.Pages.{refusalText}
+use Rattle.print.specs.Printing.{refusalText}
 use Rattle.run.proofs.RunLaws.{put-to, put-full, refusal-few}
 use borrow.Author.Needs.{needs}
 use Rattle.run.proofs.put_refusal.Statement.{statement}

@@ -4,7 +4,7 @@ use native.Mathlib.Omega.{arith}
 use lib.ListN.{length}
 use lib.Seq.{length-sets}
 use Rattle.text.specs.Numbers.{lines}
-use Rattle.text.specs.Pages.{refusalText}
+use Rattle.print.specs.Printing.{refusalText}
 use Rattle.run.specs.Run.{partsText}
 use Rattle.run.proofs.RunLaws.{too-small, too-long, ran-parts}
 use Rattle.run.proofs.run.Statement.{statement}

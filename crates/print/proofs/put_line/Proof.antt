@@ -1,0 +1,130 @@
+-- `print::put_line` meets its contract. Assumes nothing.
+use Prim.Native.Nat.{ℕ, _+_, _-_, _<_}
+use native.Mathlib.Omega.{arith}
+use borrow.Author.Needs.{needs}
+use mathlib.Core.Path.{_≡_, refl, sym, ap, _∙_}
+use mathlib.Core.List.{List}
+use lib.ListN.{length, take, getD}
+use lib.Seq.{sets, getD-take}
+use lib.IntN.{ℤ, pos}
+use Rattle.number.proofs.Kit.{rd, came}
+use Rattle.text.specs.Numbers.{closing}
+use Rattle.print.specs.Printing.{decimal}
+use Rattle.print.proofs.PrintLaws.{Lining, lining-start, lining-room, lining-more, lining-done, first-length}
+use Rattle.print.proofs.put_line.Statement.{statement}
+use Rattle.print.proofs.put_line.Tie as tie
+
+abbrev Inv-loop : tie.InvT-loop
+Inv-loop out₀ at k v p₀ i₀ out p i = Lining out₀ at (take k v) out p i
+
+abbrev μ-loop : tie.MeasureT-loop
+μ-loop out₀ at k v p₀ i₀ out p i = k - i
+
+loop-holds : tie.Need-loop-holds Inv-loop μ-loop
+loop-holds c = let a = c .before .args in lining-start (a .out .now) (a .at) (take (a .k) (a .t3))
+
+-- the values of the line, which are k
+abbrev values : tie.At-loop Inv-loop μ-loop → List ℤ
+values l = take (l .before .before .args .k) (l .before .before .args .t3)
+
+long : (l : tie.At-loop Inv-loop μ-loop) → length (values l) ≡ l .before .before .args .k
+long l =
+    let s = l .before .before in
+    let n : length (s .args .t3) ≡ 5 = search needs in
+    first-length (s .args .t3) (s .args .k) n (s .pre .0)
+
+mul-x : tie.Need-mul-x Inv-loop μ-loop
+mul-x c = omega arith
+
+array-copy-out-x : tie.Need-array-copy-out-x Inv-loop μ-loop
+array-copy-out-x c = omega arith
+
+-- the value that is put
+value : (c : tie.After-x Inv-loop μ-loop) → rd (getD (c .before .before .before .before .args .t3) (c .before .before .loop .i) (pos 0)) ≡ getD (values (c .before .before)) (c .before .before .loop .i) (pos 0)
+value c =
+    let l = c .before .before in
+    let a = l .before .before .args in
+    came (getD (a .t3) (l .loop .i) (pos 0)) (c .x .given) ∙ sym (getD-take (a .k) (a .t3) (l .loop .i) (pos 0) (c .before .loop-test .taken))
+
+fits : (c : tie.After-x Inv-loop μ-loop) → c .before .before .loop .p + length (decimal (getD (values (c .before .before)) (c .before .before .loop .i) (pos 0))) < length (c .before .before .loop .out)
+fits c =
+    let l = c .before .before in
+    let s = l .before .before in
+    lining-room (s .args .out .now) (s .args .at) (values l) (l .loop .out) (l .loop .p) (l .loop .i) (l .loop .inv) (omega (arith, long l, c .before .loop-test .taken)) (s .pre .1)
+
+put-number-requires : tie.Need-put-number-requires Inv-loop μ-loop
+put-number-requires c κs = omega (arith, fits (c .before), ap (λ (z : ℤ). length (decimal z)) (value (c .before)))
+
+sub-closing : tie.Need-sub-closing Inv-loop μ-loop
+sub-closing c = omega arith
+
+sub-closing-2 : tie.Need-sub-closing-2 Inv-loop μ-loop
+sub-closing-2 c = omega arith
+
+closing-requires : tie.Need-closing-requires Inv-loop μ-loop
+closing-requires c κs = search needs
+
+-- the number put, and the offset after it
+ends : (c : tie.After-put-number Inv-loop μ-loop)
+    → (c .put-number .last .0 ≡ sets (c .before .before .before .before .loop .out) (c .before .before .before .before .loop .p) (decimal (getD (values (c .before .before .before .before)) (c .before .before .before .before .loop .i) (pos 0))))
+    × (c .put-number .result ≡ c .before .before .before .before .loop .p + length (decimal (getD (values (c .before .before .before .before)) (c .before .before .before .before .loop .i) (pos 0))))
+ends c =
+    let l = c .before .before .before .before in
+    let e = value (c .before .before) in
+    (c .put-number .ensures .0 ∙ ap (λ (z : ℤ). sets (l .loop .out) (l .loop .p) (decimal z)) e, c .put-number .ensures .1 ∙ ap (λ (z : ℤ). l .loop .p + length (decimal z)) e)
+
+slice-write-out : tie.Need-slice-write-out Inv-loop μ-loop
+slice-write-out c =
+    let p = c .before .before .before in
+    omega (arith, p .put-number .kept .0, ends p .1, fits (p .before .before))
+
+add-p : tie.Need-add-p Inv-loop μ-loop
+add-p c =
+    let p = c .before .before .before in
+    let l = p .before .before .before .before in
+    omega (arith, ends p .1, fits (p .before .before), l .loop .inv .long, l .before .before .good)
+
+add-i : tie.Need-add-i Inv-loop μ-loop
+add-i c = let l = c .before .before .before .before .before .before .before in omega (arith, c .before .before .before .before .before .before .loop-test .taken, l .before .before .pre .0)
+
+loop-less : tie.Need-loop-less Inv-loop μ-loop
+loop-less c = omega (arith, c .before .before .before .before .before .before .loop-test .taken)
+
+loop-again : tie.Need-loop-again Inv-loop μ-loop
+loop-again c =
+    let p = c .before .before .before in
+    let l = p .before .before .before .before in
+    let s = l .before .before in
+    let b = c .closing .ensures ∙ ap (λ (n : ℕ). closing (n - l .loop .i - 1)) (sym (long l)) in
+    lining-more (s .args .out .now) (s .args .at) (values l) (l .loop .out) (l .loop .p) (l .loop .i) (l .loop .inv) (omega (arith, long l, p .before .before .before .loop-test .taken))
+    (p .put-number .last .0) _ (p .put-number .result) (c .closing .result) (ends p .0) (ends p .1) b refl
+
+same-length : tie.Need-same-length Inv-loop μ-loop
+same-length c = c .before .loop .inv .long
+
+returns : tie.Need-returns Inv-loop μ-loop
+returns c =
+    let l = c .before in
+    let s = l .before .before in
+    lining-done (s .args .out .now) (s .args .at) (values l) (l .loop .out) (l .loop .p) (l .loop .i) (l .loop .inv) (omega (arith, long l))
+
+pub put-line-spec : {M : Type 1} → statement M
+put-line-spec =
+    tie.close
+    (tie.spec
+    Inv-loop
+    μ-loop
+    loop-holds
+    mul-x
+    array-copy-out-x
+    put-number-requires
+    sub-closing
+    sub-closing-2
+    closing-requires
+    slice-write-out
+    add-p
+    add-i
+    loop-less
+    loop-again
+    same-length
+    returns)

@@ -1,0 +1,177 @@
+// Numbers, lines of values and names lines, put into a lent buffer at an offset (paper 01, Text). The contracts cite specs/Printing.
+use text::lines::closing;
+ghost use mathlib.Core.Path.{_≡_};
+ghost use Prim.Native.Nat.{_+_, _^_, _<_, _≤_, min};
+ghost use lib.ListN.{length, take};
+ghost use lib.Seq.{sets};
+ghost use lib.Dec.{leb};
+ghost use lib.IntN.{natAbs};
+ghost use Rattle.print.specs.Printing.{digits, decimal, lineText, printed, printedTo};
+
+// The offset after what was put, or that it did not fit and nothing was put.
+pub enum Printed {
+    To(usize),
+    Full,
+}
+
+fn magnitude(x: i64) -> u64
+    ensures { λ r. ⌜ r ≡ natAbs x ⌝ }
+{
+    if x < 0 {
+        return (-(x + 1)) as u64 + 1;
+    }
+    x as u64
+}
+
+// How many digits n has.
+fn digit_count(n: u64) -> usize
+    requires { ⌜ n < 10 ^ 19 ⌝ }
+    ensures { λ r. ⌜ r ≡ length (digits 19 n) ⌝ }
+{
+    let mut count = 1;
+    let mut bound: u64 = 10;
+    while bound <= n {
+        bound *= 10;
+        count += 1;
+    }
+    count
+}
+
+fn digit(d: u64) -> u8
+    requires { ⌜ d < 10 ⌝ }
+    ensures { λ r. ⌜ r ≡ 48 + d ⌝ }
+{
+    48 + d as u8
+}
+
+// Puts the digits of n at an offset, the last one first, and answers the offset after them.
+fn put_digits(out: &mut [u8], at: usize, n: u64) -> usize
+    requires { ⌜ n < 10 ^ 19 ⌝ }
+    requires { ⌜ at + length (digits 19 n) ≤ length (now out) ⌝ }
+    ensures { λ r. ⌜ (now (out .exit) ≡ sets (now (out .entry)) at (digits 19 n)) × (r ≡ at + length (digits 19 n)) ⌝ }
+{
+    let end = at + digit_count(n);
+    let mut p = end;
+    let mut rest = n;
+    while at < p {
+        p -= 1;
+        out[p] = digit(rest % 10);
+        rest /= 10;
+    }
+    end
+}
+
+// Puts a number at an offset, and answers the offset after it.
+fn put_number(out: &mut [u8], at: usize, x: i64) -> usize
+    requires { ⌜ at + length (decimal x) ≤ length (now out) ⌝ }
+    ensures { λ r. ⌜ (now (out .exit) ≡ sets (now (out .entry)) at (decimal x)) × (r ≡ at + length (decimal x)) ⌝ }
+{
+    if x < 0 {
+        out[at] = 45;
+        return put_digits(out, at + 1, magnitude(x));
+    }
+    put_digits(out, at, magnitude(x))
+}
+
+// Puts the line of the first k values at an offset, and answers the offset after it.
+fn put_line(out: &mut [u8], at: usize, v: [i64; 5], k: usize) -> usize
+    requires { ⌜ k ≤ 5 ⌝ }
+    requires { ⌜ at + length (lineText (take k v)) ≤ length (now out) ⌝ }
+    ensures { λ r. ⌜ (now (out .exit) ≡ sets (now (out .entry)) at (lineText (take k v))) × (r ≡ at + length (lineText (take k v))) ⌝ }
+{
+    let mut p = at;
+    let mut i = 0;
+    while i < k {
+        let x = v[i];
+        let q = put_number(out, p, x);
+        out[q] = closing(k - i - 1);
+        p = q + 1;
+        i += 1;
+    }
+    p
+}
+
+// Puts a names line at an offset, and answers the offset after it.
+fn put_names(out: &mut [u8], at: usize, names: &[u8]) -> usize
+    requires { ⌜ at + length (now names) ≤ length (now out) ⌝ }
+    ensures { λ r. ⌜ (now (out .exit) ≡ sets (now (out .entry)) at (now (names .entry))) × (r ≡ at + length (now (names .entry))) ⌝ }
+{
+    let mut i = 0;
+    while i < names.len() {
+        out[at + i] = names[i];
+        i += 1;
+    }
+    at + i
+}
+
+// How many bytes a number takes.
+fn number_width(x: i64) -> usize
+    ensures { λ r. ⌜ r ≡ length (decimal x) ⌝ }
+{
+    let count = digit_count(magnitude(x));
+    if x < 0 { 1 + count } else { count }
+}
+
+// How many bytes the line of the first k values takes.
+fn line_width(v: [i64; 5], k: usize) -> usize
+    requires { ⌜ k ≤ 5 ⌝ }
+    ensures { λ r. ⌜ r ≡ length (lineText (take k v)) ⌝ }
+{
+    let mut width = 0;
+    let mut i = 0;
+    while i < k {
+        let x = v[i];
+        width = width + number_width(x) + 1;
+        i += 1;
+    }
+    width
+}
+
+fn has_room(length: usize, at: usize, width: usize) -> bool
+    ensures { λ r. ⌜ r ≡ leb (at + width) length ⌝ }
+{
+    if length < at {
+        return false;
+    }
+    width <= length - at
+}
+
+fn at_most_five(k: usize) -> usize
+    ensures { λ r. ⌜ r ≡ min k 5 ⌝ }
+{
+    if k < 5 { k } else { 5 }
+}
+
+// Prints a number at an offset, where it fits.
+pub fn print_number(out: &mut [u8], at: usize, x: i64) -> Printed
+    ensures { λ r. ⌜ now (out .exit) ≡ printed (now (out .entry)) at (decimal x) ⌝ }
+    ensures { λ r. ⌜ r ≡ printedTo (now (out .entry)) at (decimal x) ⌝ }
+{
+    if !has_room(out.len(), at, number_width(x)) {
+        return Printed::Full;
+    }
+    Printed::To(put_number(out, at, x))
+}
+
+// Prints the line of the first k values at an offset, where it fits.
+pub fn print_line(out: &mut [u8], at: usize, v: [i64; 5], k: usize) -> Printed
+    ensures { λ r. ⌜ now (out .exit) ≡ printed (now (out .entry)) at (lineText (take k v)) ⌝ }
+    ensures { λ r. ⌜ r ≡ printedTo (now (out .entry)) at (lineText (take k v)) ⌝ }
+{
+    let n = at_most_five(k);
+    if !has_room(out.len(), at, line_width(v, n)) {
+        return Printed::Full;
+    }
+    Printed::To(put_line(out, at, v, n))
+}
+
+// Prints a names line at an offset, where it fits.
+pub fn print_names(out: &mut [u8], at: usize, names: &[u8]) -> Printed
+    ensures { λ r. ⌜ now (out .exit) ≡ printed (now (out .entry)) at (now (names .entry)) ⌝ }
+    ensures { λ r. ⌜ r ≡ printedTo (now (out .entry)) at (now (names .entry)) ⌝ }
+{
+    if !has_room(out.len(), at, names.len()) {
+        return Printed::Full;
+    }
+    Printed::To(put_names(out, at, names))
+}
