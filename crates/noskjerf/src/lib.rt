@@ -1,8 +1,24 @@
-// The engine for programs in other languages: functions on numbers and slices under C names. The contracts cite specs/Answers.
+// The engine for programs in other languages: functions on numbers and slices under C names. The contracts cite specs/Answers and specs/Slices.
+mod slices;
+
+use crate::slices::costs_in;
+use crate::slices::number_of;
+use crate::slices::put_edges;
+use crate::slices::put_prices;
+use crate::slices::steps_in;
+use curve::Outcome;
+use curve::RawCurve;
 use run::Ran;
 ghost use mathlib.Core.Path.{_≡_};
+ghost use Rattle.curve.specs.Curves.{bidRefusal};
 ghost use Rattle.run.specs.Run.{output, ranWithin, ranTo, runRoom};
 ghost use Rattle.noskjerf.specs.Answers.{ranNumber};
+ghost use Rattle.noskjerf.specs.Slices.{rawBid, costsIn, defaultAnswer, edgesAfter, pricesAfter};
+
+// How many numbers the slices lent to noskjerf_default have to have: the number of steps, the start and the ends of a curve, and its prices.
+const EDGES: usize = 12;
+
+const PRICES: usize = 10;
 
 // How many bytes a page lent to noskjerf_run has to have.
 #[no_mangle]
@@ -23,4 +39,53 @@ pub extern "C" fn noskjerf_run(text: &[u8], page: &mut [u8]) -> i64
         Ran::Printed(count) => count as i64,
         Ran::TooSmall => -1,
     }
+}
+
+// Whether a bid is accepted, by month since the rule took effect: 0, or the number of its refusal. `steps` has end and price of each step in turn, and numbers
+// past its end count as 0.
+#[no_mangle]
+pub extern "C" fn noskjerf_bid(month: u64, start: i64, count: usize, steps: &[i64]) -> u64
+    ensures { λ r. ⌜ r ≡ bidRefusal month (rawBid start count (now (steps .entry))) ⌝ }
+{
+    let bid = RawCurve {
+        start,
+        count,
+        steps: steps_in(steps),
+    };
+    let checked = bid.checked_bid(month);
+    let outcome = checked.outcome;
+    number_of(outcome)
+}
+
+// The default energy bid from costs. `points` has quantity and heat rate of each point in turn, `charges` gas, rate, allowance, om, msc, soc and fee, and numbers
+// past their ends count as 0. Answers 0 and puts the curve's number of steps, start and ten ends into `edges`, and its ten prices into `prices`; or answers the
+// number of a refusal, or -1 where `edges` has fewer than 12 numbers or `prices` fewer than 10, and leaves both as they were.
+#[no_mangle]
+pub extern "C" fn noskjerf_default(
+    count: usize,
+    points: &[i64],
+    charges: &[i64],
+    edges: &mut [u64],
+    prices: &mut [i64],
+) -> i64
+    ensures answer { λ r. ⌜ r ≡ defaultAnswer (now (edges .entry)) (now (prices .entry)) (costsIn count (now (points .entry)) (now (charges .entry))) ⌝ }
+    ensures edges { λ r. ⌜ now (edges .exit) ≡ edgesAfter (now (edges .entry)) (now (prices .entry)) (costsIn count (now (points .entry)) (now (charges .entry))) ⌝ }
+    ensures prices { λ r. ⌜ now (prices .exit) ≡ pricesAfter (now (edges .entry)) (now (prices .entry)) (costsIn count (now (points .entry)) (now (charges .entry))) ⌝ }
+{
+    if edges.len() < EDGES {
+        return -1;
+    }
+    if prices.len() < PRICES {
+        return -1;
+    }
+    let costs = costs_in(count, points, charges);
+    let checked = costs.default_curve();
+    let outcome = checked.outcome;
+    if let Outcome::Refused(refusal) = outcome {
+        return refusal.number() as i64;
+    }
+    let curve = checked.curve;
+    put_edges(curve, edges);
+    put_prices(curve, prices);
+    0
 }
