@@ -187,6 +187,40 @@ static void test_rounding(void)
     CHECK(prices[0] == 40);
 }
 
+/* Up to 80% of the last quantity the incremental heat rate is limited to the larger heat rate, here 10,000; past it, it is 17,142. */
+static void test_eighty_percent(void)
+{
+    static const int64_t within[] = { 10000, 1, 24000, 10000, 30000, 10000 };
+    static const int64_t past[] = { 10000, 1, 24001, 10000, 30000, 10000 };
+    static const int64_t charges[NOSKJERF_CHARGES] = { 1000, 0, 0, 0, 0, 0, 0 };
+    CHECK(answer(3, within, LENGTH(within), charges) == 0 && prices[0] == 11000);
+    CHECK(answer(3, past, LENGTH(past), charges) == 0 && prices[0] == 18857);
+}
+
+/* Fuel comes from the largest incremental heat rate so far, greenhouse from the step's own: 10,000 + 799 + 50,000 make 60,799. */
+static void test_falling_heat_rate(void)
+{
+    static const int64_t points[] = { 10000, 10000, 20000, 10000, 20100, 9990 };
+    static const int64_t charges[NOSKJERF_CHARGES] = { 1000, 100000, 1000, 0, 0, 0, 50000 };
+    CHECK(answer(3, points, LENGTH(points), charges) == 0);
+    CHECK(edges[0] == 2);
+    CHECK(prices[0] == 12650);
+    CHECK(prices[1] == 66879);
+}
+
+/* A narrow step's fee exceeds its right neighbour's, which is raised to its price. */
+static void test_raised_price(void)
+{
+    static const int64_t points[] = { 10000, 10000, 10100, 10000, 20100, 10000 };
+    static const int64_t charges[NOSKJERF_CHARGES] = { 1000, 0, 0, 0, 0, 0, 50000 };
+    CHECK(answer(3, points, LENGTH(points), charges) == 0);
+    CHECK(edges[0] == 2);
+    CHECK(edges[2] == 10100);
+    CHECK(edges[3] == 20100);
+    CHECK(prices[0] == 66000);
+    CHECK(prices[1] == 66000);
+}
+
 /* The answer for `count` of the 12 points that rise by 100 with heat rate 1, all charges 0: fuel and greenhouse are 0 as well. */
 static int64_t rising_points(size_t count)
 {
@@ -246,6 +280,10 @@ static void test_incremental_heat_rate(void)
 {
     static const int64_t at_the_end[] = { 10000, 10000, 29999, 1, 30000, 9500 };
     static const int64_t limited[] = { 0, 1, 999, 1, 1000, 100000, 2000, 100000 };
+    CHECK(two_points(0, 1, 100000, 2, 100000));
+    CHECK(two_points(8, 1, 99999, 2, 100000));
+    CHECK(two_points(0, 2, 50003, 3, 2));
+    CHECK(two_points(8, 2, 50002, 3, 1));
     CHECK(answer(3, at_the_end, LENGTH(at_the_end), charges_of_t) == 8 && untouched());
     CHECK(answer(4, limited, LENGTH(limited), charges_of_t) == 0 && edges[0] == 3);
 }
@@ -289,6 +327,9 @@ int main(void)
     test_bid_lengths();
     test_curve_of_t();
     test_rounding();
+    test_eighty_percent();
+    test_falling_heat_rate();
+    test_raised_price();
     test_point_count();
     test_points();
     test_charges();

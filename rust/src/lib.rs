@@ -47,6 +47,11 @@
 //!
 //! [`Hour`] drives an hour interval by interval, and [`judgement`] judges one bid or works out one default energy bid.
 //!
+//! # Building
+//!
+//! The engine is the static library `libnoskjerf.a`, which `rt staticlib noskjerf` writes to the project's `target/staticlib`. It is looked
+//! for there, or in the folder that the environment variable `NOSKJERF_LIB` names as an absolute path.
+//!
 //! # Units
 //!
 //! Quantities are hundredths of a MW and prices 0.0001 dollar per MWh. Shift factors are millionths, so that demand, left and withheld
