@@ -75,10 +75,10 @@ uint64_t noskjerf_bid(uint64_t month, int64_t start, size_t count, const int64_t
  * allowance, om, msc, soc and fee, in this order.
  *
  * Answers 0 and fills the buffers:
- *   edges[0]       how many steps the curve has, 1 to 10
- *   edges[1]       where it starts
- *   edges[2..11]   the end of each step
- *   prices[0..9]   the price of each step
+ *   edges[0]                how many steps the curve has, 1 to 10
+ *   edges[1]                where it starts
+ *   edges[2] and after it   the end of each step
+ *   prices[0] and after it  the price of each step
  * Or it answers the lowest refusal that applies, and leaves the buffers as they were:
  *   4  the point count is outside 2 to 11
  *   5  a quantity is outside 0 to 1,000,000, or the quantities do not rise
