@@ -1,0 +1,132 @@
+/* Tests of noskjerf_room and noskjerf_run. */
+#include <string.h>
+
+#include "check.h"
+#include "noskjerf.h"
+
+/* Case T: an opening, and one interval. */
+#define OPENING \
+    "month\n" \
+    "25\n" \
+    "portfolio seller\n" \
+    "0 1\n" \
+    "resource portfolio start\n" \
+    "0 0 10000\n" \
+    "resource end price\n" \
+    "0 15000 300000\n" \
+    "0 30000 900000\n" \
+    "resource mw heat\n" \
+    "0 10000 10000\n" \
+    "0 20000 9000\n" \
+    "0 30000 9500\n" \
+    "resource gas rate allowance om msc soc fee\n" \
+    "0 40000 0 0 20000 1000 3000 50\n"
+
+#define INTERVAL \
+    "constraint shadow\n" \
+    "0 500000\n" \
+    "resource lmp dispatch available floor\n" \
+    "0 600000 20000 30000 0\n" \
+    "resource constraint factor\n" \
+    "0 0 -500000\n" \
+    "parameter\n" \
+    "100\n"
+
+#define PAGE_OF_INTERVAL(i) \
+    "interval constraint verdict demand left\n" \
+    i " 0 1 10000000000 0\n" \
+    "interval constraint portfolio withheld\n" \
+    i " 0 0 15000000000\n" \
+    "interval resource end price\n" \
+    i " 0 15000 300000\n" \
+    i " 0 20000 378402\n" \
+    i " 0 30000 488402\n"
+
+#define REFUSAL(number_and_line) "refusal line\n" number_and_line "\n"
+
+/* What a byte of the page is before a call. */
+#define BEFORE 0xA5
+
+/* A page with some bytes more than it has to have. */
+static uint8_t page[NOSKJERF_ROOM + 100];
+
+static uint8_t long_text[NOSKJERF_MAX_TEXT + 1];
+
+/* Whether every byte of the page from one offset on is as it was. */
+static int untouched_from(size_t at)
+{
+    while (at < sizeof page && page[at] == BEFORE) {
+        at++;
+    }
+    return at == sizeof page;
+}
+
+/* Whether the first bytes of a text print what is expected on a page of some length, and leave the rest of the page as it was. */
+static int prints_on(const uint8_t *text, size_t length, size_t page_len, const char *expected)
+{
+    size_t count = strlen(expected);
+    int64_t answer;
+
+    memset(page, BEFORE, sizeof page);
+    answer = noskjerf_run(text, length, page, page_len);
+    return answer == (int64_t)count && memcmp(page, expected, count) == 0 && untouched_from(count);
+}
+
+/* The same for a whole text, on a page with room to spare. */
+static int prints(const char *text, const char *expected)
+{
+    return prints_on((const uint8_t *)text, strlen(text), sizeof page, expected);
+}
+
+/* Whether a page of some length is answered with -1 and left as it was. */
+static int too_small(size_t page_len)
+{
+    memset(page, BEFORE, sizeof page);
+    return noskjerf_run((const uint8_t *)OPENING INTERVAL, strlen(OPENING INTERVAL), page, page_len) == -1 && untouched_from(0);
+}
+
+static void test_room(void)
+{
+    CHECK(noskjerf_room() == NOSKJERF_ROOM);
+    CHECK(too_small(NOSKJERF_ROOM - 1));
+    CHECK(too_small(1));
+    CHECK(too_small(0));
+    CHECK(prints_on((const uint8_t *)OPENING INTERVAL, strlen(OPENING INTERVAL), NOSKJERF_ROOM, PAGE_OF_INTERVAL("1")));
+}
+
+static void test_intervals(void)
+{
+    CHECK(prints(OPENING, ""));
+    CHECK(prints(OPENING INTERVAL, PAGE_OF_INTERVAL("1")));
+    CHECK(prints(OPENING INTERVAL INTERVAL, PAGE_OF_INTERVAL("1") PAGE_OF_INTERVAL("2")));
+    CHECK(prints(OPENING INTERVAL INTERVAL INTERVAL INTERVAL INTERVAL,
+                 PAGE_OF_INTERVAL("1") PAGE_OF_INTERVAL("2") PAGE_OF_INTERVAL("3") PAGE_OF_INTERVAL("4") REFUSAL("12 55")));
+}
+
+static void test_form(void)
+{
+    CHECK(prints("", REFUSAL("17 1")));
+    CHECK(prints("\n", REFUSAL("17 1")));
+    CHECK(prints(OPENING INTERVAL "x", PAGE_OF_INTERVAL("1") REFUSAL("17 24")));
+    CHECK(prints("month\n25\nportfolio seller\n0 01\n", REFUSAL("17 4")));
+    /* a zero byte is a byte like any other, here in line 2 */
+    CHECK(prints_on((const uint8_t *)"month\n2\0005\n", 10, sizeof page, REFUSAL("17 2")));
+}
+
+/* Case T and newlines up to the length: where it is read, line 24 is the first that is not due. */
+static void test_length(void)
+{
+    memset(long_text, '\n', sizeof long_text);
+    memcpy(long_text, OPENING INTERVAL, strlen(OPENING INTERVAL));
+    CHECK(prints_on(long_text, NOSKJERF_MAX_TEXT, sizeof page, PAGE_OF_INTERVAL("1") REFUSAL("17 24")));
+    CHECK(prints_on(long_text, NOSKJERF_MAX_TEXT + 1, sizeof page, REFUSAL("18 1")));
+}
+
+int main(void)
+{
+    test_room();
+    test_intervals();
+    test_form();
+    test_length();
+    return report("test");
+}

@@ -1,0 +1,340 @@
+/* Tests of noskjerf_bid and noskjerf_default. */
+#include <string.h>
+
+#include "check.h"
+#include "noskjerf.h"
+
+#define LENGTH(array) (sizeof(array) / sizeof(array)[0])
+
+/* ---- bids */
+
+/* The judgement on a bid of one step from 10,000 on. */
+static uint64_t one_step(uint64_t month, int64_t end, int64_t price)
+{
+    int64_t steps[2];
+    steps[0] = end;
+    steps[1] = price;
+    return noskjerf_bid(month, 10000, 1, steps, LENGTH(steps));
+}
+
+/* The judgement on a bid of two steps in month 25. */
+static uint64_t two_steps(int64_t start, int64_t end, int64_t price, int64_t next_end, int64_t next_price)
+{
+    int64_t steps[4];
+    steps[0] = end;
+    steps[1] = price;
+    steps[2] = next_end;
+    steps[3] = next_price;
+    return noskjerf_bid(25, start, 2, steps, LENGTH(steps));
+}
+
+/* The judgement on `count` steps of the 11 that rise by 100 and have price 0. */
+static uint64_t rising_steps(size_t count)
+{
+    int64_t steps[22];
+    size_t i;
+    for (i = 0; i < 11; i++) {
+        steps[2 * i] = 100 * (int64_t)(i + 1);
+        steps[2 * i + 1] = 0;
+    }
+    return noskjerf_bid(25, 0, count, steps, LENGTH(steps));
+}
+
+static void test_step_count(void)
+{
+    CHECK(rising_steps(0) == 1);
+    CHECK(rising_steps(1) == 0);
+    CHECK(rising_steps(10) == 0);
+    CHECK(rising_steps(11) == 1);
+    CHECK(rising_steps(SIZE_MAX) == 1);
+}
+
+static void test_edges(void)
+{
+    CHECK(two_steps(10000, 15000, 300000, 30000, 900000) == 0);
+    CHECK(two_steps(0, 1, 0, 1000000, 0) == 0);
+    CHECK(two_steps(-1, 1, 0, 2, 0) == 2);
+    CHECK(two_steps(0, 1, 0, 1000001, 0) == 2);
+    CHECK(two_steps(10000, 10000, 0, 30000, 0) == 2);
+    CHECK(two_steps(10000, 15000, 0, 15000, 0) == 2);
+    CHECK(two_steps(10000, 15000, 0, 14999, 0) == 2);
+    CHECK(two_steps(INT64_MIN, 15000, 0, INT64_MAX, 0) == 2);
+}
+
+static void test_prices(void)
+{
+    CHECK(one_step(1, 15000, -1500000) == 0);
+    CHECK(one_step(1, 15000, -1500001) == 3);
+    CHECK(one_step(25, 15000, INT64_MIN) == 3);
+    CHECK(one_step(25, 15000, INT64_MAX) == 3);
+    CHECK(two_steps(10000, 15000, 300000, 30000, 300000) == 0);
+    CHECK(two_steps(10000, 15000, 300000, 30000, 299999) == 3);
+}
+
+static void test_months(void)
+{
+    CHECK(one_step(12, 15000, 5000000) == 0);
+    CHECK(one_step(12, 15000, 5000001) == 3);
+    CHECK(one_step(13, 15000, 5000001) == 0);
+    CHECK(one_step(24, 15000, 7500000) == 0);
+    CHECK(one_step(24, 15000, 7500001) == 3);
+    CHECK(one_step(25, 15000, 7500001) == 0);
+    CHECK(one_step(1200, 15000, 10000000) == 0);
+    CHECK(one_step(1200, 15000, 10000001) == 3);
+}
+
+/* The lowest number wins, over the whole bid. */
+static void test_bid_order(void)
+{
+    static const int64_t falling[22] = { 5, 9, 4, 8, 3, 7, 2, 6, 1, 5, 0, 4 };
+    CHECK(noskjerf_bid(25, 6, 11, falling, LENGTH(falling)) == 1);
+    CHECK(noskjerf_bid(25, 6, 6, falling, LENGTH(falling)) == 2);
+    CHECK(two_steps(10000, 15000, 10000001, 15000, 10000002) == 2);
+}
+
+/* Numbers past the end of the steps count as 0; those past the count are not looked at. */
+static void test_bid_lengths(void)
+{
+    static const int64_t steps[] = { 15000, 300000, 14000, 0 };
+    CHECK(noskjerf_bid(25, 10000, 1, steps, 4) == 0);
+    CHECK(noskjerf_bid(25, 10000, 1, steps, 1) == 0);
+    CHECK(noskjerf_bid(25, 10000, 1, steps, 0) == 2);
+    CHECK(noskjerf_bid(25, 10000, 2, steps, 2) == 2);
+    CHECK(noskjerf_bid(25, 10000, 0, steps, 0) == 1);
+}
+
+/* ---- default energy bids */
+
+/* What a cell of a buffer is before a call, one that no curve holds. */
+#define BEFORE 77777777
+
+/* The buffers, with a cell more than they have to have; the last is never lent. */
+static uint64_t edges[NOSKJERF_EDGES + 1];
+static int64_t prices[NOSKJERF_PRICES + 1];
+
+/* Case T's costs. */
+static const int64_t points_of_t[] = { 10000, 10000, 20000, 9000, 30000, 9500 };
+static const int64_t charges_of_t[NOSKJERF_CHARGES] = { 40000, 0, 0, 20000, 1000, 3000, 50 };
+
+static void fill_buffers(void)
+{
+    size_t i;
+    for (i = 0; i < LENGTH(edges); i++) {
+        edges[i] = BEFORE;
+    }
+    for (i = 0; i < LENGTH(prices); i++) {
+        prices[i] = BEFORE;
+    }
+}
+
+/* Whether every cell of both buffers is as it was. */
+static int untouched(void)
+{
+    size_t i;
+    for (i = 0; i < LENGTH(edges); i++) {
+        if (edges[i] != BEFORE) {
+            return 0;
+        }
+    }
+    for (i = 0; i < LENGTH(prices); i++) {
+        if (prices[i] != BEFORE) {
+            return 0;
+        }
+    }
+    return 1;
+}
+
+/* The answer for `count` points, of which the numbers are given, and charges. */
+static int64_t answer(size_t count, const int64_t *points, size_t points_len, const int64_t *charges)
+{
+    fill_buffers();
+    return noskjerf_default(count, points, points_len, charges, NOSKJERF_CHARGES, edges, NOSKJERF_EDGES, prices, NOSKJERF_PRICES);
+}
+
+/* Whether two points with Case T's charges are accepted (0), or refused with this number and the buffers left alone. */
+static int two_points(int64_t expected, int64_t mw, int64_t heat, int64_t next_mw, int64_t next_heat)
+{
+    int64_t points[4];
+    points[0] = mw;
+    points[1] = heat;
+    points[2] = next_mw;
+    points[3] = next_heat;
+    return answer(2, points, LENGTH(points), charges_of_t) == expected && untouched() == (expected != 0);
+}
+
+static void test_curve_of_t(void)
+{
+    CHECK(answer(3, points_of_t, LENGTH(points_of_t), charges_of_t) == 0);
+    CHECK(edges[0] == 2);
+    CHECK(edges[1] == 10000);
+    CHECK(edges[2] == 20000);
+    CHECK(edges[3] == 30000);
+    CHECK(prices[0] == 378402);
+    CHECK(prices[1] == 488402);
+    CHECK(edges[NOSKJERF_EDGES] == BEFORE);
+    CHECK(prices[NOSKJERF_PRICES] == BEFORE);
+}
+
+/* Rates and rounding: fuel 1, greenhouse 1 and fee part 34 make 36, and 39.6 is rounded up. */
+static void test_rounding(void)
+{
+    static const int64_t points[] = { 0, 1, 3, 1 };
+    static const int64_t charges[NOSKJERF_CHARGES] = { 1, 1, 1, 0, 0, 0, 1 };
+    CHECK(answer(2, points, LENGTH(points), charges) == 0);
+    CHECK(edges[0] == 1);
+    CHECK(edges[1] == 0);
+    CHECK(edges[2] == 3);
+    CHECK(prices[0] == 40);
+}
+
+/* Up to 80% of the last quantity the incremental heat rate is limited to the larger heat rate, here 10,000; past it, it is 17,142. */
+static void test_eighty_percent(void)
+{
+    static const int64_t within[] = { 10000, 1, 24000, 10000, 30000, 10000 };
+    static const int64_t past[] = { 10000, 1, 24001, 10000, 30000, 10000 };
+    static const int64_t charges[NOSKJERF_CHARGES] = { 1000, 0, 0, 0, 0, 0, 0 };
+    CHECK(answer(3, within, LENGTH(within), charges) == 0 && prices[0] == 11000);
+    CHECK(answer(3, past, LENGTH(past), charges) == 0 && prices[0] == 18857);
+}
+
+/* Fuel comes from the largest incremental heat rate so far, greenhouse from the step's own: 10,000 + 799 + 50,000 make 60,799. */
+static void test_falling_heat_rate(void)
+{
+    static const int64_t points[] = { 10000, 10000, 20000, 10000, 20100, 9990 };
+    static const int64_t charges[NOSKJERF_CHARGES] = { 1000, 100000, 1000, 0, 0, 0, 50000 };
+    CHECK(answer(3, points, LENGTH(points), charges) == 0);
+    CHECK(edges[0] == 2);
+    CHECK(prices[0] == 12650);
+    CHECK(prices[1] == 66879);
+}
+
+/* A narrow step's fee exceeds its right neighbour's, which is raised to its price. */
+static void test_raised_price(void)
+{
+    static const int64_t points[] = { 10000, 10000, 10100, 10000, 20100, 10000 };
+    static const int64_t charges[NOSKJERF_CHARGES] = { 1000, 0, 0, 0, 0, 0, 50000 };
+    CHECK(answer(3, points, LENGTH(points), charges) == 0);
+    CHECK(edges[0] == 2);
+    CHECK(edges[2] == 10100);
+    CHECK(edges[3] == 20100);
+    CHECK(prices[0] == 66000);
+    CHECK(prices[1] == 66000);
+}
+
+/* The answer for `count` of the 12 points that rise by 100 with heat rate 1, all charges 0: fuel and greenhouse are 0 as well. */
+static int64_t rising_points(size_t count)
+{
+    static const int64_t charges[NOSKJERF_CHARGES];
+    int64_t points[24];
+    size_t i;
+    for (i = 0; i < 12; i++) {
+        points[2 * i] = 100 * (int64_t)i;
+        points[2 * i + 1] = 1;
+    }
+    return answer(count, points, LENGTH(points), charges);
+}
+
+static void test_point_count(void)
+{
+    CHECK(rising_points(0) == 4 && untouched());
+    CHECK(rising_points(1) == 4 && untouched());
+    CHECK(rising_points(2) == 0 && edges[0] == 1);
+    CHECK(rising_points(11) == 0 && edges[0] == 10 && edges[11] == 1000 && prices[9] == 0);
+    CHECK(rising_points(12) == 4 && untouched());
+    CHECK(rising_points(SIZE_MAX) == 4 && untouched());
+}
+
+static void test_points(void)
+{
+    CHECK(two_points(0, 0, 9000, 1000000, 9000));
+    CHECK(two_points(5, -1, 9000, 1000000, 9000));
+    CHECK(two_points(5, 0, 9000, 1000001, 9000));
+    CHECK(two_points(5, 10000, 9000, 10000, 9000));
+    CHECK(two_points(5, INT64_MIN, 9000, INT64_MAX, 9000));
+    CHECK(two_points(0, 10000, 1, 20000, 1));
+    CHECK(two_points(0, 10000, 100000, 20000, 100000));
+    CHECK(two_points(6, 10000, 0, 20000, 9000));
+    CHECK(two_points(6, 10000, 9000, 20000, 100001));
+    CHECK(two_points(6, 10000, INT64_MIN, 20000, INT64_MAX));
+}
+
+/* Every charge at its top is accepted; with one unit more, and below 0, it is refused. */
+static void test_charges(void)
+{
+    static const int64_t top[NOSKJERF_CHARGES] = { 1000000, 200000, 10000000, 1000000, 1000000, 1000000, 1000000 };
+    int64_t charges[NOSKJERF_CHARGES];
+    size_t i;
+
+    CHECK(answer(3, points_of_t, LENGTH(points_of_t), top) == 0);
+    for (i = 0; i < NOSKJERF_CHARGES; i++) {
+        memcpy(charges, charges_of_t, sizeof charges);
+        charges[i] = top[i] + 1;
+        CHECK(answer(3, points_of_t, LENGTH(points_of_t), charges) == 7 && untouched());
+        charges[i] = -1;
+        CHECK(answer(3, points_of_t, LENGTH(points_of_t), charges) == 7 && untouched());
+    }
+}
+
+/* A jump of the heat rate over one hundredth of a MW: at the end of the curve it is refused, up to 80% of it the limit holds it. */
+static void test_incremental_heat_rate(void)
+{
+    static const int64_t at_the_end[] = { 10000, 10000, 29999, 1, 30000, 9500 };
+    static const int64_t limited[] = { 0, 1, 999, 1, 1000, 100000, 2000, 100000 };
+    CHECK(two_points(0, 1, 100000, 2, 100000));
+    CHECK(two_points(8, 1, 99999, 2, 100000));
+    CHECK(two_points(0, 2, 50003, 3, 2));
+    CHECK(two_points(8, 2, 50002, 3, 1));
+    CHECK(answer(3, at_the_end, LENGTH(at_the_end), charges_of_t) == 8 && untouched());
+    CHECK(answer(4, limited, LENGTH(limited), charges_of_t) == 0 && edges[0] == 3);
+}
+
+/* The lowest number wins, over the whole table. */
+static void test_cost_order(void)
+{
+    static const int64_t negative[NOSKJERF_CHARGES] = { -1, -1, -1, -1, -1, -1, -1 };
+    static const int64_t points[] = { 10000, 0, 10000, 9000 };
+    static const int64_t heat[] = { 10000, 0, 20000, 9000 };
+    CHECK(answer(1, points, LENGTH(points), negative) == 4);
+    CHECK(answer(2, points, LENGTH(points), negative) == 5);
+    CHECK(answer(2, heat, LENGTH(heat), negative) == 6);
+    CHECK(answer(3, points_of_t, LENGTH(points_of_t), negative) == 7);
+}
+
+/* A buffer that is too small is answered before anything else, and both are left alone. */
+static int too_small(size_t count, size_t edges_len, size_t prices_len)
+{
+    fill_buffers();
+    return noskjerf_default(count, points_of_t, LENGTH(points_of_t), charges_of_t, NOSKJERF_CHARGES, edges, edges_len, prices,
+                            prices_len) == -1
+           && untouched();
+}
+
+static void test_small_buffers(void)
+{
+    CHECK(too_small(3, NOSKJERF_EDGES - 1, NOSKJERF_PRICES));
+    CHECK(too_small(3, NOSKJERF_EDGES, NOSKJERF_PRICES - 1));
+    CHECK(too_small(3, 0, 0));
+    CHECK(too_small(1, 0, NOSKJERF_PRICES));
+}
+
+int main(void)
+{
+    test_step_count();
+    test_edges();
+    test_prices();
+    test_months();
+    test_bid_order();
+    test_bid_lengths();
+    test_curve_of_t();
+    test_rounding();
+    test_eighty_percent();
+    test_falling_heat_rate();
+    test_raised_price();
+    test_point_count();
+    test_points();
+    test_charges();
+    test_incremental_heat_rate();
+    test_cost_order();
+    test_small_buffers();
+    return report("test_judgements");
+}

@@ -1,0 +1,68 @@
+//! The static library's functions, made safe. This is the only module with unsafe code.
+//!
+//! The functions read and write within the lengths that are passed and nowhere else, they keep no pointer, and the buffers they write are
+//! lent for change, so that they overlap nothing. The pointer of an empty slice is not null, as the functions want it.
+
+extern "C" {
+    fn noskjerf_room() -> usize;
+    fn noskjerf_run(text: *const u8, text_len: usize, page: *mut u8, page_len: usize) -> i64;
+}
+
+/// How many bytes a page has to have.
+pub fn room() -> usize {
+    // SAFETY: takes nothing
+    unsafe { noskjerf_room() }
+}
+
+/// Puts what a text prints on the page; answers how many bytes that took, or none where the page is too small.
+pub fn run(text: &[u8], page: &mut [u8]) -> Option<usize> {
+    // SAFETY: both pointers come with the lengths of their slices
+    let count = unsafe { noskjerf_run(text.as_ptr(), text.len(), page.as_mut_ptr(), page.len()) };
+    usize::try_from(count).ok()
+}
+
+#[cfg(feature = "judgements")]
+mod judgements {
+    extern "C" {
+        fn noskjerf_bid(month: u64, start: i64, count: usize, steps: *const i64, steps_len: usize) -> u64;
+
+        fn noskjerf_default(
+            count: usize,
+            points: *const i64,
+            points_len: usize,
+            charges: *const i64,
+            charges_len: usize,
+            edges: *mut u64,
+            edges_len: usize,
+            prices: *mut i64,
+            prices_len: usize,
+        ) -> i64;
+    }
+
+    /// The refusal of a bid whose steps hold end and price in turn, or 0.
+    pub fn bid(month: u64, start: i64, count: usize, steps: &[i64]) -> u64 {
+        // SAFETY: the pointer comes with the length of its slice
+        unsafe { noskjerf_bid(month, start, count, steps.as_ptr(), steps.len()) }
+    }
+
+    /// The refusal of costs whose points hold mw and heat in turn; or 0, and the buffers filled.
+    pub fn default(count: usize, points: &[i64], charges: &[i64; 7], edges: &mut [u64; 12], prices: &mut [i64; 10]) -> i64 {
+        // SAFETY: each pointer comes with the length of its slice
+        unsafe {
+            noskjerf_default(
+                count,
+                points.as_ptr(),
+                points.len(),
+                charges.as_ptr(),
+                charges.len(),
+                edges.as_mut_ptr(),
+                edges.len(),
+                prices.as_mut_ptr(),
+                prices.len(),
+            )
+        }
+    }
+}
+
+#[cfg(feature = "judgements")]
+pub use judgements::{bid, default};

@@ -1,0 +1,277 @@
+//! Judgements on one bid or one table of costs, without a text.
+
+use crate::{ffi, refusal::reason, Step};
+use std::error::Error;
+use std::fmt;
+
+/// Why a bid or costs were refused: the number of the reason, 1 to 8.
+#[derive(Clone, Copy, Debug, PartialEq, Eq, Hash)]
+pub struct Refused {
+    /// The number of the reason.
+    pub number: u8,
+}
+
+impl Refused {
+    /// The reason alone, as a sentence for a person.
+    pub fn reason(&self) -> &'static str {
+        reason(self.number)
+    }
+}
+
+impl fmt::Display for Refused {
+    fn fmt(&self, f: &mut fmt::Formatter<'_>) -> fmt::Result {
+        write!(f, "{} (refusal {})", self.reason(), self.number)
+    }
+}
+
+impl Error for Refused {}
+
+/// Judges a bid that starts at `start`, submitted in a month since the rule took effect; the month sets the highest price.
+///
+/// The refusal is the lowest of 1 (the count of the steps), 2 (the edges) and 3 (the prices) that applies. The month itself is not
+/// judged; one before 1 counts as month 1.
+///
+/// ```
+/// use noskjerf::{judgement::bid, Step};
+///
+/// let steps = [Step { end: 15000, price: 300000 }, Step { end: 30000, price: 5000001 }];
+/// assert_eq!(bid(12, 10000, &steps).unwrap_err().number, 3);
+/// assert_eq!(bid(13, 10000, &steps), Ok(()));
+/// ```
+pub fn bid(month: u64, start: i64, steps: &[Step]) -> Result<(), Refused> {
+    let numbers: Vec<i64> = steps.iter().flat_map(|step| [step.end, step.price]).collect();
+    refused_or_not(ffi::bid(month, start, steps.len(), &numbers))
+}
+
+/// A point of a resource's costs.
+#[derive(Clone, Copy, Debug, PartialEq, Eq)]
+pub struct Point {
+    /// The quantity, in hundredths of a MW.
+    pub mw: i64,
+    /// The average heat rate at this quantity, in Btu/kWh.
+    pub heat: i64,
+}
+
+/// The prices, rates and fees of a resource's costs.
+#[derive(Clone, Copy, Debug, Default, PartialEq, Eq)]
+pub struct Charges {
+    /// The gas price, in 0.0001 dollar per MMBtu: 0 to 1,000,000.
+    pub gas: i64,
+    /// The emission rate, in millionths of a tonne per MMBtu: 0 to 200,000.
+    pub rate: i64,
+    /// The price of a greenhouse gas allowance, in 0.0001 dollar per tonne: 0 to 10,000,000.
+    pub allowance: i64,
+    /// Operation and maintenance, in 0.0001 dollar per MWh: 0 to 1,000,000, as are the three below.
+    pub om: i64,
+    /// The market services charge, in 0.0001 dollar per MWh.
+    pub msc: i64,
+    /// The system operations charge, in 0.0001 dollar per MWh.
+    pub soc: i64,
+    /// The bid segment fee, in 0.0001 dollar per segment.
+    pub fee: i64,
+}
+
+/// A default energy bid.
+#[derive(Clone, Debug, PartialEq, Eq)]
+pub struct DefaultCurve {
+    /// Where the curve starts, in hundredths of a MW.
+    pub start: i64,
+    /// Its steps, 1 to 10 of them.
+    pub steps: Vec<Step>,
+}
+
+/// Works out the default energy bid of a resource from its costs: one step between each two neighbouring points.
+///
+/// The refusal is the lowest of 4 (the count of the points), 5 (their quantities), 6 (their heat rates), 7 (the charges) and 8 (an
+/// incremental heat rate) that applies.
+///
+/// ```
+/// use noskjerf::judgement::{default_curve, Charges, Point};
+///
+/// let points = [(10000, 10000), (20000, 9000), (30000, 9500)].map(|(mw, heat)| Point { mw, heat });
+/// let charges = Charges { gas: 40000, om: 20000, msc: 1000, soc: 3000, fee: 50, ..Charges::default() };
+/// let curve = default_curve(&points, &charges)?;
+/// assert_eq!(curve.start, 10000);
+/// assert_eq!((curve.steps[0].end, curve.steps[0].price), (20000, 378402));
+/// assert_eq!((curve.steps[1].end, curve.steps[1].price), (30000, 488402));
+/// # Ok::<(), noskjerf::judgement::Refused>(())
+/// ```
+pub fn default_curve(points: &[Point], charges: &Charges) -> Result<DefaultCurve, Refused> {
+    let numbers: Vec<i64> = points.iter().flat_map(|point| [point.mw, point.heat]).collect();
+    let Charges {
+        gas,
+        rate,
+        allowance,
+        om,
+        msc,
+        soc,
+        fee,
+    } = *charges;
+    let charges = [gas, rate, allowance, om, msc, soc, fee];
+    let mut edges = [0; 12];
+    let mut prices = [0; 10];
+    let answer = ffi::default(points.len(), &numbers, &charges, &mut edges, &mut prices);
+    refused_or_not(u64::try_from(answer).expect("the buffers have the room that the engine asks for"))?;
+    Ok(curve(&edges, &prices))
+}
+
+/// The answer of the engine: 0, or the number of a refusal.
+fn refused_or_not(answer: u64) -> Result<(), Refused> {
+    match u8::try_from(answer).expect("the number of a refusal is small") {
+        0 => Ok(()),
+        number => Err(Refused { number }),
+    }
+}
+
+/// The curve in buffers that the engine filled: how many steps, the start, the ends; and the prices.
+fn curve(edges: &[u64; 12], prices: &[i64; 10]) -> DefaultCurve {
+    let [steps, start, ends @ ..] = edges.map(|edge| i64::try_from(edge).expect("an edge is at most 1,000,000"));
+    let steps = usize::try_from(steps).expect("a curve has at most 10 steps");
+    let rows = ends.iter().zip(prices).take(steps);
+    DefaultCurve {
+        start,
+        steps: rows.map(|(&end, &price)| Step { end, price }).collect(),
+    }
+}
+
+#[cfg(test)]
+mod tests {
+    use super::*;
+
+    const TOP: Charges = Charges {
+        gas: 1_000_000,
+        rate: 200_000,
+        allowance: 10_000_000,
+        om: 1_000_000,
+        msc: 1_000_000,
+        soc: 1_000_000,
+        fee: 1_000_000,
+    };
+
+    fn judged(month: u64, start: i64, steps: &[(i64, i64)]) -> u8 {
+        let steps: Vec<Step> = steps.iter().map(|&(end, price)| Step { end, price }).collect();
+        bid(month, start, &steps).map_or_else(|refused| refused.number, |()| 0)
+    }
+
+    fn costs(points: &[(i64, i64)], charges: &Charges) -> Result<DefaultCurve, u8> {
+        let points: Vec<Point> = points.iter().map(|&(mw, heat)| Point { mw, heat }).collect();
+        default_curve(&points, charges).map_err(|refused| refused.number)
+    }
+
+    fn rising(count: i64) -> Vec<(i64, i64)> {
+        (1..=count).map(|i| (100 * i, 1)).collect()
+    }
+
+    #[test]
+    fn a_bid_has_1_to_10_steps() {
+        assert_eq!(judged(25, 0, &[]), 1);
+        assert_eq!(judged(25, 0, &rising(10)), 0);
+        assert_eq!(judged(25, 0, &rising(11)), 1);
+        assert_eq!(judged(25, 0, &rising(100_000)), 1);
+    }
+
+    #[test]
+    fn edges_lie_within_limits_and_rise() {
+        assert_eq!(judged(25, 0, &[(1_000_000, 0)]), 0);
+        assert_eq!(judged(25, -1, &[(1_000_000, 0)]), 2);
+        assert_eq!(judged(25, 0, &[(1_000_001, 0)]), 2);
+        assert_eq!(judged(25, 5, &[(5, 0)]), 2);
+        assert_eq!(judged(25, 5, &[(7, 0), (7, 0)]), 2);
+        assert_eq!(judged(25, i64::MIN, &[(i64::MAX, 0)]), 2);
+    }
+
+    #[test]
+    fn the_month_sets_the_highest_price() {
+        for (month, top) in [
+            (1, 5_000_000),
+            (12, 5_000_000),
+            (13, 7_500_000),
+            (24, 7_500_000),
+            (25, 10_000_000),
+            (1_200, 10_000_000),
+        ] {
+            assert_eq!(judged(month, 0, &[(1, top)]), 0);
+            assert_eq!(judged(month, 0, &[(1, top + 1)]), 3);
+        }
+        assert_eq!(judged(25, 0, &[(1, -1_500_000)]), 0);
+        assert_eq!(judged(25, 0, &[(1, -1_500_001)]), 3);
+    }
+
+    #[test]
+    fn prices_never_fall() {
+        assert_eq!(judged(25, 0, &[(1, 7), (2, 7)]), 0);
+        assert_eq!(judged(25, 0, &[(1, 7), (2, 6)]), 3);
+        // the lowest number wins
+        assert_eq!(judged(25, 0, &[(1, i64::MAX), (1, 0)]), 2);
+    }
+
+    #[test]
+    fn costs_have_2_to_11_points() {
+        assert_eq!(costs(&[], &TOP), Err(4));
+        assert_eq!(costs(&rising(1), &TOP), Err(4));
+        assert_eq!(costs(&rising(2), &TOP).unwrap().steps.len(), 1);
+        assert_eq!(costs(&rising(11), &TOP).unwrap().steps.len(), 10);
+        assert_eq!(costs(&rising(12), &TOP), Err(4));
+    }
+
+    #[test]
+    fn points_lie_within_limits() {
+        assert_eq!(costs(&[(-1, 1), (2, 1)], &TOP), Err(5));
+        assert_eq!(costs(&[(0, 1), (1_000_001, 1)], &TOP), Err(5));
+        assert_eq!(costs(&[(2, 1), (2, 1)], &TOP), Err(5));
+        assert_eq!(costs(&[(0, 0), (2, 1)], &TOP), Err(6));
+        assert_eq!(costs(&[(0, 1), (2, 100_001)], &TOP), Err(6));
+    }
+
+    #[test]
+    fn charges_lie_within_limits() {
+        for charges in [
+            Charges { gas: TOP.gas + 1, ..TOP },
+            Charges { rate: TOP.rate + 1, ..TOP },
+            Charges {
+                allowance: TOP.allowance + 1,
+                ..TOP
+            },
+            Charges { om: TOP.om + 1, ..TOP },
+            Charges { msc: TOP.msc + 1, ..TOP },
+            Charges { soc: TOP.soc + 1, ..TOP },
+            Charges { fee: TOP.fee + 1, ..TOP },
+            Charges { gas: -1, ..TOP },
+        ] {
+            assert_eq!(costs(&rising(2), &charges), Err(7), "{charges:?}");
+        }
+    }
+
+    #[test]
+    fn an_incremental_heat_rate_lies_within_limits() {
+        assert_eq!(costs(&[(10000, 10000), (29999, 1), (30000, 9500)], &TOP), Err(8));
+        assert!(costs(&[(0, 1), (999, 1), (1000, 100_000), (2000, 100_000)], &TOP).is_ok());
+    }
+
+    #[test]
+    fn each_charge_has_its_place() {
+        // one step of 3: a price of 11/10 of each charge's own part, up
+        let price = |charges: Charges| costs(&[(0, 2000), (3, 2000)], &charges).unwrap().steps[0].price;
+        let none = Charges::default();
+        assert_eq!(price(none), 0);
+        assert_eq!(price(Charges { gas: 100, ..none }), 220);
+        assert_eq!(
+            price(Charges {
+                rate: 200_000,
+                allowance: 1_000_000,
+                ..none
+            }),
+            440_000
+        );
+        assert_eq!(price(Charges { om: 10, ..none }), 11);
+        assert_eq!(price(Charges { msc: 20, ..none }), 22);
+        assert_eq!(price(Charges { soc: 30, ..none }), 33);
+        assert_eq!(price(Charges { fee: 3, ..none }), 110);
+    }
+
+    #[test]
+    fn refused_says_why() {
+        let refused = bid(25, 0, &[]).unwrap_err();
+        assert_eq!(refused.to_string(), "a bid has no step, or more than 10 (refusal 1)");
+    }
+}

@@ -1,0 +1,108 @@
+//! Local market power mitigation, as a safe library over the proved engine Noskjerf.
+//!
+//! A text holds the tables that open a trading hour and those of its intervals: bids and costs, then shadow prices, shift factors and
+//! dispatch. [`run`] runs a text. Each accepted interval gives a [`Page`]: the verdict on every constraint, the sellers named, and the
+//! bid curve of every resource after mitigation. What is wrong with a text is a [`Refusal`], a number from 1 to 18 and a line. The
+//! project's `docs/FORMAT.md` describes the text and `docs/REFUSALS.md` the refusals.
+//!
+//! ```
+//! use noskjerf::{run, Finding};
+//!
+//! let text = b"\
+//! month
+//! 25
+//! portfolio seller
+//! 0 1
+//! resource portfolio start
+//! 0 0 10000
+//! resource end price
+//! 0 15000 300000
+//! 0 30000 900000
+//! resource mw heat
+//! 0 10000 10000
+//! 0 20000 9000
+//! 0 30000 9500
+//! resource gas rate allowance om msc soc fee
+//! 0 40000 0 0 20000 1000 3000 50
+//! constraint shadow
+//! 0 500000
+//! resource lmp dispatch available floor
+//! 0 600000 20000 30000 0
+//! resource constraint factor
+//! 0 0 -500000
+//! parameter
+//! 100
+//! ";
+//! let output = run(text);
+//! assert_eq!(output.refusal, None);
+//!
+//! let page = &output.pages[0];
+//! assert_eq!(page.verdicts[0].finding, Finding::NonCompetitive);
+//! assert_eq!(page.sellers[0].portfolio, 0);
+//!
+//! // the bid of resource 0 was 300000 and 900000; the second step is cut
+//! let prices: Vec<i64> = page.curves[0].steps.iter().map(|step| step.price).collect();
+//! assert_eq!(prices, [300000, 378402, 488402]);
+//! ```
+//!
+//! [`Hour`] drives an hour interval by interval, and [`judgement`] judges one bid or works out one default energy bid.
+//!
+//! # Building
+//!
+//! The engine is the static library `libnoskjerf.a`, which `rt staticlib noskjerf` writes to the project's `target/staticlib`. It is looked
+//! for there, or in the folder that the environment variable `NOSKJERF_LIB` names as an absolute path.
+//!
+//! # Units
+//!
+//! Quantities are hundredths of a MW and prices 0.0001 dollar per MWh. Shift factors are millionths, so that demand, left and withheld
+//! are in hundred-millionths of a MW.
+//!
+//! # Threads
+//!
+//! The engine keeps nothing between calls; any number of threads may call it at once. A call takes some 450 KB of stack, less than Rust
+//! gives a thread (2 MiB); a thread made with a smaller one should have 1 MiB.
+
+#![deny(unsafe_code)]
+#![warn(missing_docs)]
+
+#[allow(unsafe_code)]
+mod ffi;
+mod hour;
+#[cfg(feature = "judgements")]
+pub mod judgement;
+mod output;
+mod refusal;
+
+pub use hour::Hour;
+pub use output::{Curve, Finding, Output, Page, Seller, Step, Verdict};
+pub use refusal::Refusal;
+
+/// How many bytes a text may have; a longer one is refused (18).
+pub const MAX_TEXT: usize = 65_536;
+
+/// What a text prints, byte for byte what the program `mitigate` writes for it.
+///
+/// ```
+/// assert_eq!(noskjerf::print(b"month\n025\n"), b"refusal line\n17 2\n");
+/// ```
+pub fn print(text: &[u8]) -> Vec<u8> {
+    let mut page = vec![0; ffi::room()];
+    let count = ffi::run(text, &mut page).expect("the page has the room that the engine asks for");
+    page.truncate(count);
+    page.shrink_to_fit();
+    page
+}
+
+/// Runs a text: what it prints, read into pages and a refusal.
+///
+/// Intervals are printed one by one, so that the pages of those before a refusal are there beside it.
+///
+/// ```
+/// let output = noskjerf::run(b"month\n025\n");
+/// assert!(output.pages.is_empty());
+/// let refusal = output.refusal.unwrap();
+/// assert_eq!((refusal.number, refusal.line), (17, 2));
+/// ```
+pub fn run(text: &[u8]) -> Output {
+    Output::of(print(text))
+}

@@ -1,0 +1,80 @@
+//! Refusals and what they say.
+
+use std::error::Error;
+use std::fmt;
+
+/// Why a text was refused: the number of the reason, 1 to 18, and a line of the text, counted from 1.
+///
+/// For 17 it is the faulty line, or the one after the last where the text ends early; for 18 it is 1; for any other number it is the
+/// last line of the part (the opening, or an interval) that was refused.
+///
+/// ```
+/// let refusal = noskjerf::run(b"").refusal.unwrap();
+/// assert_eq!(refusal.to_string(), "line 1: the line is not of the form that is due there (refusal 17)");
+/// ```
+#[derive(Clone, Copy, Debug, PartialEq, Eq, Hash)]
+pub struct Refusal {
+    /// The number of the reason.
+    pub number: u8,
+    /// The line.
+    pub line: u64,
+}
+
+impl Refusal {
+    /// The reason alone, as a sentence for a person.
+    pub fn reason(&self) -> &'static str {
+        reason(self.number)
+    }
+}
+
+impl fmt::Display for Refusal {
+    fn fmt(&self, f: &mut fmt::Formatter<'_>) -> fmt::Result {
+        write!(f, "line {}: {} (refusal {})", self.line, self.reason(), self.number)
+    }
+}
+
+impl Error for Refusal {}
+
+/// What a number says.
+pub(crate) fn reason(number: u8) -> &'static str {
+    match number {
+        1 => "a bid has no step, or more than 10",
+        2 => "an edge of a bid is outside 0 to 1,000,000, or its edges do not rise",
+        3 => "a bid price is outside the range that the month allows, or the prices fall",
+        4 => "a resource has fewer than 2 cost points, or more than 11",
+        5 => "the quantity of a cost point is outside 0 to 1,000,000, or the quantities do not rise",
+        6 => "a heat rate is outside 1 to 100,000",
+        7 => "a price, rate or fee of the costs is outside its range",
+        8 => "an incremental heat rate, after the 80% limit, is outside -100,000 to 100,000",
+        9 => "the month is outside 1 to 1,200, the portfolio count outside 1 to 16 or the resource count outside 1 to 64",
+        10 => "a portfolio's seller is not 0 or 1, or a resource's portfolio is not declared",
+        11 => "a bid reaches outside its default energy bid",
+        12 => "the hour has taken four intervals already",
+        13 => "the interval does not have as many resources as the hour",
+        14 => "the interval has more than 32 constraints",
+        15 => "a shadow price, locational price, parameter or shift factor is outside its limits",
+        16 => "available is outside 0 to 1,000,000, or floor or dispatch is below 0 or above available",
+        17 => "the line is not of the form that is due there",
+        18 => "the text has more than 65,536 bytes",
+        _ => "no such refusal is known",
+    }
+}
+
+#[cfg(test)]
+mod tests {
+    use super::*;
+    use std::collections::BTreeSet;
+
+    #[test]
+    fn every_number_has_a_sentence_of_its_own() {
+        let sentences: BTreeSet<&str> = (0..=18).map(reason).collect();
+        assert_eq!(sentences.len(), 19);
+        assert_eq!(reason(0), reason(19));
+    }
+
+    #[test]
+    fn it_is_an_error() {
+        let error: Box<dyn Error + Send + Sync> = Box::new(Refusal { number: 12, line: 55 });
+        assert_eq!(error.to_string(), "line 55: the hour has taken four intervals already (refusal 12)");
+    }
+}
