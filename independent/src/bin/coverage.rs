@@ -1,0 +1,72 @@
+//! Prints what the first N seeds reach: `coverage [N] [first seed]`.
+
+use independent::coverage::Coverage;
+use std::process::ExitCode;
+use std::time::Instant;
+
+fn argument(index: usize, otherwise: u64) -> u64 {
+    let given = std::env::args().nth(index);
+    given.map_or(otherwise, |given| given.parse().expect("a whole number"))
+}
+
+fn print_list(title: &str, first: usize, counts: &[usize]) {
+    println!("{title}");
+    for (index, count) in counts.iter().enumerate() {
+        println!("  {:>6} {count}", first + index);
+    }
+}
+
+fn print(coverage: &Coverage) {
+    println!("texts {}", coverage.texts);
+    println!("bytes {}", coverage.bytes);
+    print_list("refusal number (0: none)", 0, &coverage.refusals);
+    print_list(
+        "refusals after accepted intervals",
+        0,
+        &coverage.refusals_after,
+    );
+    println!("refused on line 1 {}", coverage.refused_on_line_1);
+    println!("hours opened {}", coverage.opened);
+    println!("intervals accepted {}", coverage.accepted_intervals);
+    print_list("verdicts", 0, &coverage.verdicts);
+    println!("constraints at equality {}", coverage.at_equality);
+    println!("constraints one above equality {}", coverage.one_above);
+    println!("constraints with ties {}", coverage.ties);
+    println!("constraints where a tie decides {}", coverage.deciding_ties);
+    println!("most steps in a curve {}", coverage.most_steps);
+    println!("curves of 19 steps {}", coverage.curves_of_19_steps);
+    println!("curves cut {}", coverage.curves_cut);
+    println!("curves cut further {}", coverage.curves_cut_further);
+    println!("submitted prices at a cap {}", coverage.prices_at_cap);
+    println!(
+        "components of 0, opposed {}",
+        coverage.components_of_0_from_opposed_factors
+    );
+    println!(
+        "components of 1 to 999,999 {}",
+        coverage.components_below_a_million
+    );
+    println!("components below 0 {}", coverage.components_negative);
+    println!("prices below 0 {}", coverage.prices_negative);
+    println!("parameters missing {}", coverage.parameters_missing);
+    print_list("texts by bytes", 65_535, &coverage.sizes);
+    println!(
+        "texts of 65,536 bytes accepted whole {}",
+        coverage.full_texts_accepted_whole
+    );
+}
+
+fn main() -> ExitCode {
+    let (count, first) = (argument(1, 20_000), argument(2, 0));
+    let start = Instant::now();
+    let coverage = Coverage::of(first..first + count);
+    print(&coverage);
+    println!("seconds {:.1}", start.elapsed().as_secs_f64());
+    match coverage.all_reached() {
+        true => ExitCode::SUCCESS,
+        false => {
+            println!("not all reached");
+            ExitCode::FAILURE
+        }
+    }
+}
