@@ -1,20 +1,24 @@
 -- What the run means, in paper 01's words. Assumes nothing.
 use Prim.Native.Nat.{ℕ, zero, suc, _+_, _≤_, _<_}
-use mathlib.Core.Path.{_≡_, refl, ap}
+use mathlib.Core.Path.{_≡_, refl, sym, ap, _∙_}
 use mathlib.Core.List.{List, [], _∷_, _++_}
 use mathlib.Core.Bool.{Bool, cond}
 use native.Mathlib.Omega.{arith}
 use borrow.Author.Tests.{lt-ltb, le-ltb}
 use lib.ListN.{length}
-use Rattle.engine.specs.Hours.{hourRefusal, hourAfter}
+use Rattle.engine.specs.Demand3.{hourOf}
+use Rattle.engine.specs.Hours.{hourRefusal, hourAfter, hourVerdicts, hourAfterAll}
+use Rattle.engine.specs.Openings.{openedHour}
 use Rattle.engine.specs.declared.Hour.{Hour}
+use Rattle.opening.specs.declared.Opening.{Opening}
 use Rattle.interval.specs.declared.Interval.{Interval}
 use Rattle.text.specs.Numbers.{Line, bytes, lines}
 use Rattle.text.specs.Tables.{Reading, faulty, found}
 use Rattle.print.specs.Printing.{digits, decimal, lineText, refusalText}
+use Rattle.page.specs.Pages.{pageText}
 use Rattle.parts.specs.Parts.{readInterval}
 use Rattle.run.specs.Run.{part, answer, pageOf, intervals, partsText, output}
-use Rattle.run.proofs.RunLaws.{accepts-few, accepts-counts}
+use Rattle.run.proofs.RunLaws.{accepted-text, accepts-few, accepts-counts}
 
 -- "18 is tested first": whatever else is wrong with a text of over 65,536 bytes
 pub longer-refused : (text : List ℕ) → 65536 < length text → output text ≡ bytes "refusal line\n18 1\n"
@@ -50,3 +54,19 @@ pub five-suffice : (k f i : ℕ) (h : Hour) (n : ℕ) (ls : List Line) → h .ac
 five-suffice k zero i h n ls e l = absurd (omega (arith, l))
 five-suffice zero (suc f) i h n ls e l = step 0 f i h n ls (λ v m rest g. absurd (omega (arith, e, accepts-few h v g)))
 five-suffice (suc k) (suc f) i h n ls e l = step (suc k) f i h n ls (λ v m rest g. five-suffice k f (suc i) (hourAfter h v) m rest (omega (arith, e, accepts-counts h v g)) (omega (arith, l)))
+
+-- ---- the hour that is printed is the one of demand 3
+-- one call more
+after-one : (h : Hour) (calls : List Interval) (v : Interval) → hourAfterAll h (calls ++ v ∷ []) ≡ hourAfter (hourAfterAll h calls) v
+unfolding hourAfterAll
+after-one h [] v = refl
+after-one h (w ∷ calls) v = after-one (hourAfter h w) calls v
+
+-- "Each accepted interval, counted from 1, prints its three tables .. before the next is read": the page has the hour that the whole list of calls leaves
+pub page-of-list : (o : Opening) (calls : List Interval) (f i n : ℕ) (ls : List Line) → 0 < length ls → (v : Interval) (m : ℕ) (rest : List Line)
+    → readInterval n ls ≡ found v m rest → hourRefusal (hourOf o calls) v ≡ 0
+    → intervals (suc f) i (hourOf o calls) n ls
+    ≡ pageText i (hourOf o (calls ++ v ∷ [])) (v .constraints) (hourVerdicts (hourOf o calls) v) ++ intervals f (suc i) (hourOf o (calls ++ v ∷ [])) m rest
+page-of-list o calls f i n ls some v m rest e g =
+    accepted-text f i (hourOf o calls) n ls some v m rest e g
+    ∙ ap (λ (h : Hour). pageText i h (v .constraints) (hourVerdicts (hourOf o calls) v) ++ intervals f (suc i) h m rest) (sym (after-one (openedHour o) calls v))
