@@ -4,3 +4,4 @@ pub mod RunLaws
 pub mod GoingLaws
 pub mod Meaning
 pub mod Examples
+pub mod SoFar
