@@ -182,22 +182,16 @@ fn put_sellers(
     p
 }
 
-// Puts the curves of the first resources, a line for each step, and answers the offset after them.
-fn put_curves(
-    out: &mut [u8],
-    at: usize,
-    i: u64,
-    resources: usize,
-    rows: [Row; Hour::MAX_RESOURCES],
-) -> usize
+// Puts the curves of an hour's resources, a line for each step, and answers the offset after them.
+fn put_curves(out: &mut [u8], at: usize, i: u64, hour: Hour) -> usize
     requires { ⌜ at + 102144 ≤ length (now out) ⌝ }
-    ensures { λ q. ⌜ Put 102144 (now (out .entry)) at (curveTable i resources rows) (now (out .exit)) q ⌝ }
+    ensures { λ q. ⌜ Put 102144 (now (out .entry)) at (curveTable i (hour .market .resources) (hour .rows)) (now (out .exit)) q ⌝ }
 {
-    let n = at_most(resources, Hour::MAX_RESOURCES);
+    let n = at_most(hour.market.resources, Hour::MAX_RESOURCES);
     let mut p = at;
     let mut r: usize = 0;
     while r < n {
-        let row = rows[r];
+        let row = hour.rows[r];
         p = put_steps(out, p, i, r as u64, engine::row_curve(row));
         r += 1;
     }
@@ -220,14 +214,12 @@ pub fn print_page(
     if !has_room(out.len(), at, PAGE_ROOM) {
         return Printed::Full;
     }
-    let market = hour.market;
-    let rows = hour.rows;
     let a = put_names(out, at, b"interval constraint verdict demand left\n");
     let b = put_verdicts(out, a, i, constraints, verdicts);
     let c = put_names(out, b, b"interval constraint portfolio withheld\n");
     let d = put_sellers(out, c, i, constraints, verdicts);
     let e = put_names(out, d, b"interval resource end price\n");
-    Printed::To(put_curves(out, e, i, market.resources, rows))
+    Printed::To(put_curves(out, e, i, hour))
 }
 
 // Prints the lines of a refusal, its number and its line, where there is room.

@@ -86,10 +86,9 @@ fn put_intervals(
         if let Outcome::Refused(refusal) = outcome {
             return put_refusal(out, p, refusal.number(), read.line);
         }
-        let next = answer.hour;
         let verdicts = answer.verdicts;
-        p = put_page(out, p, i, next, v.constraints, verdicts);
-        hour = next;
+        hour = answer.hour;
+        p = put_page(out, p, i, hour, v.constraints, verdicts);
         at = read.next;
         line = read.line;
         i += 1;

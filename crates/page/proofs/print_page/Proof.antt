@@ -43,7 +43,7 @@ room e = leb-true (start e .args .at + pageRoom) (length (start e .args .out .no
 
 -- the test before each call
 abbrev else1 : tie.After-put-names → tie.Else1
-else1 c = c .before .before .before .before .before
+else1 c = c .before .before .before
 
 abbrev else2 : tie.After-put-verdicts → tie.Else1
 else2 c = else1 (c .before .before .before .before)
@@ -115,7 +115,7 @@ slice-aggregate-put-names : tie.Need-slice-aggregate-put-names
 slice-aggregate-put-names c = search needs
 
 put-names-requires : tie.Need-put-names-requires
-put-names-requires c κs = omega (arith, room (c .before .before .before .before))
+put-names-requires c κs = omega (arith, room (c .before .before))
 
 put-verdicts-requires : tie.Need-put-verdicts-requires
 put-verdicts-requires c κs =

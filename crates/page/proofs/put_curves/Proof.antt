@@ -4,7 +4,7 @@ use mathlib.Core.Path.{_≡_, sym, ap, _∙_}
 use mathlib.Core.List.{List, [], _∷_, map}
 use borrow.Author.Needs.{needs}
 use native.Mathlib.Omega.{arith}
-use lib.ListN.{length, drop, take, getD}
+use lib.ListN.{length, drop, take, getD, length-map}
 use lib.Seq.{sets}
 use Rattle.number.proofs.OverLaws.{taken-at}
 use Rattle.engine.specs.Hours.{noRow}
@@ -15,35 +15,35 @@ use Rattle.page.proofs.put_curves.Statement.{statement}
 use Rattle.page.proofs.put_curves.Tie as tie
 
 abbrev Inv-loop : tie.InvT-loop
-Inv-loop out₀ at i resources rows n p₀ r₀ out p r =
-    Putting out₀ at (curveTable i resources rows) out p (tableText (printable i) r (map curveRows (drop r (take resources rows)))) × (r ≤ n) × (p ≤ at + 1596 * r)
+Inv-loop out₀ at i hour n p₀ r₀ out p r =
+    Putting out₀ at (curveTable i (hour .market .resources) (hour .rows)) out p (tableText (printable i) r (map curveRows (drop r (take (hour .market .resources) (hour .rows))))) × (r ≤ n) × (p ≤ at + 1596 * r)
 
 abbrev μ-loop : tie.MeasureT-loop
-μ-loop out₀ at i resources rows n p₀ r₀ out p r = n - r
+μ-loop out₀ at i hour n p₀ r₀ out p r = n - r
 
 -- how many are printed
-used : (c : tie.At-loop Inv-loop μ-loop) → length (take (c .before .before .before .args .resources) (c .before .before .before .args .t5)) ≡ c .before .at-most .result
+used : (c : tie.At-loop Inv-loop μ-loop) → length (take (c .before .before .before .args .t4 .market .resources) (c .before .before .before .args .t4 .rows)) ≡ c .before .at-most .result
 used c =
     let a = c .before .before .before .args in
-    let n : length (a .t5) ≡ 64 = search needs in
-    taken-length (a .resources) (c .before .at-most .result) 64 (a .t5) n (c .before .at-most .ensures)
+    let n : length (a .t4 .rows) ≡ 64 = simp length-map at (c .before .before .before .good .1 .1 .1 .0 .1 .1 .1 .1 .0 .1 .0 .1) in
+    taken-length (a .t4 .market .resources) (c .before .at-most .result) 64 (a .t4 .rows) n (c .before .at-most .ensures)
 
 few : (c : tie.In-loop Inv-loop μ-loop) → c .before .loop .r < 64
 few c = omega (arith, c .loop-test .taken, c .before .before .at-most .ensures)
 
-here : (c : tie.In-loop Inv-loop μ-loop) → c .before .loop .r < length (take (c .before .before .before .before .args .resources) (c .before .before .before .before .args .t5))
+here : (c : tie.In-loop Inv-loop μ-loop) → c .before .loop .r < length (take (c .before .before .before .before .args .t4 .market .resources) (c .before .before .before .before .args .t4 .rows))
 here c = omega (arith, c .loop-test .taken, used (c .before))
 
 -- the lines that are put
 abbrev lines : (c : tie.After-put-steps Inv-loop μ-loop) → List ℕ
-lines c = groupText (printable (c .before .before .before .before .before .before .before .before .args .i)) (c .before .before .before .before .before .loop .r) (curveRows (getD (take (c .before .before .before .before .before .before .before .before .args .resources) (c .before .before .before .before .before .before .before .before .args .t5)) (c .before .before .before .before .before .loop .r) noRow))
+lines c = groupText (printable (c .before .before .before .before .before .before .before .before .args .i)) (c .before .before .before .before .before .loop .r) (curveRows (getD (take (c .before .before .before .before .before .before .before .before .args .t4 .market .resources) (c .before .before .before .before .before .before .before .before .args .t4 .rows)) (c .before .before .before .before .before .loop .r) noRow))
 
 put : (c : tie.After-put-steps Inv-loop μ-loop)
     → (c .put-steps .last .0 ≡ sets (c .before .before .before .before .before .loop .out) (c .before .before .before .before .before .loop .p) (lines c)) × (c .put-steps .result ≡ c .before .before .before .before .before .loop .p + length (lines c))
 put c =
     let l = c .before .before .before .before .before in
     let a = l .before .before .before .args in
-    let fe = taken-at (a .resources) (a .t5) (l .loop .r) noRow (here (c .before .before .before .before)) in
+    let fe = taken-at (a .t4 .market .resources) (a .t4 .rows) (l .loop .r) noRow (here (c .before .before .before .before)) in
     (rw (fe, ← (c .before .row-curve .ensures)) (c .put-steps .ensures .buffer), rw (fe, ← (c .before .row-curve .ensures)) (c .put-steps .ensures .next))
 
 at-most-requires : tie.Need-at-most-requires Inv-loop μ-loop
@@ -56,8 +56,8 @@ loop-holds c = (putting-start _ _ _, omega arith, omega arith)
 mul-row : tie.Need-mul-row Inv-loop μ-loop
 mul-row c = omega (arith, few c)
 
-array-copy-out-row : tie.Need-array-copy-out-row Inv-loop μ-loop
-array-copy-out-row c = omega (arith, few c)
+element-copy-out-row : tie.Need-element-copy-out-row Inv-loop μ-loop
+element-copy-out-row c = omega (arith, few c)
 
 row-curve-requires : tie.Need-row-curve-requires Inv-loop μ-loop
 row-curve-requires c κs = search needs
@@ -80,7 +80,7 @@ loop-again c =
     let a = l .before .before .before .before .args in
     let e = put f in (
       putting-next (l .before .loop .inv .0) (lines f) _ (f .put-steps .last .0) (f .put-steps .result)
-          (table-next curveRows noRow (printable (a .i)) (take (a .resources) (a .t5)) (l .before .loop .r) (here l)) (e .0) (e .1),
+          (table-next curveRows noRow (printable (a .i)) (take (a .t4 .market .resources) (a .t4 .rows)) (l .before .loop .r) (here l)) (e .0) (e .1),
       omega (arith, l .loop-test .taken),
       omega (arith, f .put-steps .ensures .few, l .before .loop .inv .2),
     )
@@ -93,7 +93,7 @@ returns c =
     let l = c .before in
     let a = l .before .before .before .args in
     let n = used l in
-    let d = putting-done (l .loop .inv .0) (table-done curveRows noRow (printable (a .i)) (take (a .resources) (a .t5)) (l .loop .r) (omega (arith, c .loop-test .left))) in
+    let d = putting-done (l .loop .inv .0) (table-done curveRows noRow (printable (a .i)) (take (a .t4 .market .resources) (a .t4 .rows)) (l .loop .r) (omega (arith, c .loop-test .left))) in
     record { buffer = d .0; next = d .1; few = omega (arith, l .loop .inv .1, l .loop .inv .2, l .before .at-most .ensures) }
 
 pub put-curves-spec : {M : Type 1} → statement M
@@ -105,7 +105,7 @@ put-curves-spec =
     at-most-requires
     loop-holds
     mul-row
-    array-copy-out-row
+    element-copy-out-row
     row-curve-requires
     put-steps-requires
     add-r
