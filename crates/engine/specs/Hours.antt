@@ -13,7 +13,6 @@ use Rattle.mitigation.specs.declared.FloorPrice.the-variants.{Uncut}
 use Rattle.interval.specs.Intervals.{intervalRefusal}
 use Rattle.interval.specs.declared.Interval.{Interval}
 use Rattle.path.specs.Judgements.{verdictsOf, verdictsUnless}
-use Rattle.path.specs.declared.Market.{Market}
 use Rattle.path.specs.declared.Verdict.{Verdict}
 use Rattle.resource.specs.Resources.{blankRow}
 use Rattle.opening.specs.Openings.{blankMarket}

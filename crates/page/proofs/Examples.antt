@@ -2,7 +2,6 @@
 use mathlib.Core.List.{List, [], _∷_, _++_, map}
 use mathlib.Core.Path.{_≡_, refl, ap, _∙_}
 use Prim.Native.Nat.{ℕ}
-use lib.Dec.{lit<}
 use lib.IntN.{pos}
 use lib.ListN.{take, replicate}
 use Rattle.number.specs.Order.{inRange}

@@ -1,5 +1,5 @@
 -- Laws of specs/Pages. Assumes nothing.
-use Prim.Native.Nat.{ℕ, zero, suc, _+_, _-_, _*_, _≤_, _<_, min}
+use Prim.Native.Nat.{ℕ, zero, suc, _+_, _-_, _≤_, _<_, min}
 use mathlib.Core.Path.{_≡_, refl, sym, ap, _∙_}
 use mathlib.Core.List.{List, [], _∷_, _++_, map, map-append, append-nil, append-assoc}
 use mathlib.Core.Bool.{Bool, true, false, cond}
@@ -9,25 +9,18 @@ use native.Mathlib.Nat.{add-zero}
 use native.Mathlib.Numerals.{add-one}
 use lib.ListN.{length, drop, take, getD, length-append, length-take, drop-of-length-le}
 use lib.Seq.{sets, length-sets}
-use lib.IntN.{ℤ, pos}
+use lib.IntN.{pos}
 use Rattle.number.specs.Over.{those}
-use Rattle.text.specs.Numbers.{Row, closing}
+use Rattle.text.specs.Numbers.{Row}
 use Rattle.path.specs.Verdicts.{findingNumber, isNamed}
 use Rattle.path.specs.declared.Finding.{Finding}
 use Rattle.path.specs.declared.Finding.the-variants.{Competitive, NonCompetitive, NotBinding}
 use Rattle.path.specs.declared.Verdict.{Verdict}
 use Rattle.page.specs.Pages.{printable, sellerRow, sellersNamed, hasRoom, putWithin, putWithinTo}
-use Rattle.print.specs.Printing.{decimal, lineText, groupText, tableText, printed, printedTo}
+use Rattle.print.specs.Printing.{lineText, groupText, tableText, printed, printedTo}
 use Rattle.print.specs.declared.Printed.{Printed}
 use Rattle.print.specs.declared.Printed.the-variants.{To, Full}
-use Rattle.print.proofs.PrintLaws.{decimal-few}
 use Rattle.text.proofs.ListLaws.{at-cons, sets-append}
-
--- a line has at most 21 bytes for each value
-pub line-few : (x : Row) → length (lineText x) ≤ 21 * length x
-unfolding lineText
-line-few [] = omega arith
-line-few (z ∷ zs) = omega (arith, length-append (decimal z) (closing (length zs) ∷ lineText zs), decimal-few z, line-few zs)
 
 -- a text put piece by piece: what is left of it, put at p, is the whole
 pub record Putting (out : List ℕ) (at : ℕ) (text : List ℕ) (now : List ℕ) (p : ℕ) (rest : List ℕ) : Type 0 where

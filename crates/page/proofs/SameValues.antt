@@ -1,10 +1,10 @@
 -- What specs/Pages prints is what the engine holds: an engine's verdict is shown as it is, a quantity of 63 bits too, and each resource by its present curve. Assumes nothing.
-use Prim.Native.Nat.{ℕ, _≤_, _<_}
-use mathlib.Core.Path.{_≡_, refl, sym, ap, _∙_}
-use mathlib.Core.Bool.{Bool, true, false, cond}
-use mathlib.Core.List.{List, [], map}
+use Prim.Native.Nat.{ℕ, _≤_}
+use mathlib.Core.Path.{_≡_, refl, ap, _∙_}
+use mathlib.Core.Bool.{Bool, true, false}
+use mathlib.Core.List.{map}
 use native.Mathlib.Omega.{arith}
-use lib.ListN.{length, take, getD, length-map, List·getD-map}
+use lib.ListN.{length, take, length-map, List·getD-map}
 use Rattle.number.specs.Over.{listed}
 use Rattle.number.proofs.OverLaws.{taken-at}
 use Rattle.number.proofs.ListedLaws.{listed-is}
@@ -13,7 +13,6 @@ use Rattle.path.specs.Paths.{Path, binds, isNonCompetitive}
 use Rattle.path.specs.Verdicts.{verdictOf}
 use Rattle.engine.specs.Hours.{noRow, curveIn}
 use Rattle.engine.specs.declared.Hour.{Hour}
-use Rattle.text.specs.Numbers.{Row}
 use Rattle.page.specs.Pages.{printable, shown, stepRow, curveRows}
 
 -- a quantity of 63 bits is printed as it is

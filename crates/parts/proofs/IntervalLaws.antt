@@ -5,12 +5,12 @@ use mathlib.Core.List.{List}
 use lib.ListN.{length, drop}
 use lib.IntN.{ℤ}
 use Rattle.interval.specs.declared.Interval.{Interval}
-use Rattle.text.specs.Numbers.{Line, Row, bytes, lines}
-use Rattle.text.specs.Tables.{Reader, Reading, faulty, found, next, _▷_, headed, due, counting, counted, hasId, rows, run}
+use Rattle.text.specs.Numbers.{Row, bytes, lines}
+use Rattle.text.specs.Tables.{Reader, Reading, faulty, found, next, _▷_, headed, due, counting, counted, hasId, rows}
 use Rattle.text.specs.Offsets.{namesAt}
 use Rattle.text.specs.declared.lines.Found.the-variants.{At, Nothing}
 use Rattle.text.proofs.NameLaws.{not-headed, past-names}
-use Rattle.parts.specs.Parts.{factorRows, isFactor, placeOf, parameterOf, intervalOf, readInterval}
+use Rattle.parts.specs.Parts.{factorRows, isFactor, parameterOf, intervalOf, readInterval}
 use Rattle.parts.specs.Shown.{reading}
 use Rattle.parts.proofs.StageLaws.{Stage, run-few, table}
 use Rattle.parts.proofs.ReadLaws.{refuses}

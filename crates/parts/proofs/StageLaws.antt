@@ -1,14 +1,14 @@
 -- Laws of stages: a table with its names line, read at an offset of a text, ends at another, and what was read has no more lines than the text. Assumes nothing.
 use Prim.Native.Nat.{ℕ, suc, _+_, _≤_}
 use Prim.Native.String.{String}
-use mathlib.Core.Path.{_≡_, refl, sym, ap, _∙_}
+use mathlib.Core.Path.{_≡_, sym, ap, _∙_}
 use mathlib.Core.List.{List, [], _∷_}
 use mathlib.Core.Option.{Option, none, some}
 use mathlib.Core.Bool.{Bool, true, false, cond}
 use native.Mathlib.Omega.{arith}
 use lib.ListN.{length, drop, length-drop}
 use Rattle.text.specs.Numbers.{Line, Row, bytes, same, lines, row}
-use Rattle.text.specs.Tables.{Reading, Reader, faulty, found, headed, ifSuits, andMore, run, rows}
+use Rattle.text.specs.Tables.{Reader, faulty, found, headed, ifSuits, andMore, run, rows}
 use Rattle.text.specs.Offsets.{namesAt}
 use Rattle.text.specs.declared.lines.Found.the-variants.{At}
 use Rattle.text.proofs.LineLaws.{lines-few}

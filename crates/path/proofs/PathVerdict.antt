@@ -13,7 +13,7 @@ use lib.Signed.{_≤ℤ_, _<ℤ_}
 use Rattle.number.proofs.OverLaws.{listed-at, never, both, tested}
 use Rattle.path.specs.declared.Finding.{Finding}
 use Rattle.path.specs.declared.Finding.the-variants as finding
-use Rattle.path.specs.Paths.{Path, binds, demand, supply, withholdable, offers, at, Withheld, total, sellers, named, left, Absent, NetSeller, Possible, isNonCompetitive, NonCompetitive}
+use Rattle.path.specs.Paths.{Path, binds, supply, withholdable, offers, at, Withheld, total, sellers, named, left, Absent, NetSeller, Possible, isNonCompetitive, NonCompetitive}
 use Rattle.path.specs.Verdicts.{verdictOf, findingNumber, bit}
 use Rattle.path.proofs.BitLaws.{bit-zero}
 use Rattle.number.proofs.TestLaws.{above-exactly, not-above-exactly}

@@ -275,3 +275,9 @@ module _ (out : List ℕ) (at : ℕ) (text : List ℕ) where
   pub prints-none : holds out at text ≡ false → (out ≡ printed out at text) × (Full ≡ printedTo out at text)
   unfolding printed printedTo
   prints-none h = (sym (ap (λ (b : Bool). cond b (sets out at text) out) h), sym (ap (λ (b : Bool). cond b (To (at + length text)) Full) h))
+
+-- a line has at most 21 bytes for each value
+pub line-few : (x : Row) → length (lineText x) ≤ 21 * length x
+unfolding lineText
+line-few [] = omega arith
+line-few (z ∷ zs) = omega (arith, length-append (decimal z) (closing (length zs) ∷ lineText zs), decimal-few z, line-few zs)

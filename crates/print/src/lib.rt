@@ -136,6 +136,17 @@ fn has_room(length: usize, at: usize, width: usize) -> bool
     width <= length - at
 }
 
+// Whether the line of the first k values fits. None has more than 105 bytes: five numbers of up to 20, and what closes each.
+fn line_fits(size: usize, at: usize, v: [i64; 5], k: usize) -> bool
+    requires { ⌜ k ≤ 5 ⌝ }
+    ensures { λ r. ⌜ r ≡ leb (at + length (lineText (take k v))) size ⌝ }
+{
+    if has_room(size, at, 105) {
+        return true;
+    }
+    has_room(size, at, line_width(v, k))
+}
+
 fn at_most_five(k: usize) -> usize
     ensures { λ r. ⌜ r ≡ min k 5 ⌝ }
 {
@@ -159,7 +170,7 @@ pub fn print_line(out: &mut [u8], at: usize, v: [i64; 5], k: usize) -> Printed
     ensures { λ r. ⌜ r ≡ printedTo (now (out .entry)) at (lineText (take k v)) ⌝ }
 {
     let n = at_most_five(k);
-    if !has_room(out.len(), at, line_width(v, n)) {
+    if !line_fits(out.len(), at, v, n) {
         return Printed::Full;
     }
     Printed::To(put_line(out, at, v, n))

@@ -6,10 +6,7 @@ use mathlib.Core.Option.{Option, none, some}
 use mathlib.Core.Bool.{Bool, true, false, cond}
 use mathlib.Core.Path.{_≡_, refl, _∙_}
 use native.Mathlib.Omega.{arith}
-use lib.ListN.{length, drop, length-drop}
-use lib.IntN.{ℤ}
-use Rattle.interval.specs.declared.Interval.{Interval}
-use Rattle.opening.specs.declared.Opening.{Opening}
+use lib.ListN.{length, length-drop}
 use Rattle.text.specs.Numbers.{Line, Row, bytes, row, same}
 use Rattle.text.specs.Tables.{Reading, faulty, found, Reader, next, _▷_, taken, due, headed, single, ifSuits, hasId, andMore, run, rows, counting, counted, each, grouped, pairs}
 use Rattle.parts.specs.Parts.{openingOf, readOpening, factorRows, intervalOf, parameterOf, readInterval}

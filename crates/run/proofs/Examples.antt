@@ -1,7 +1,7 @@
 -- Whole runs, by computation on the definitions (paper 01, Text). Assumes nothing.
 use Prim.Native.Nat.{ℕ}
 use mathlib.Core.Path.{_≡_, refl, ap, _∙_}
-use mathlib.Core.List.{List, [], _∷_, _++_, append-nil}
+use mathlib.Core.List.{List, [], _++_, append-nil}
 use native.Mathlib.Omega.{arith}
 use lib.ListN.{length}
 use Rattle.number.specs.Order.{inRange}
@@ -21,10 +21,10 @@ use Rattle.text.specs.Numbers.{bytes, lines, number, magnitude, row}
 use Rattle.text.specs.Tables.{found, headed, due, single, run, rows, counted, grouped, pairs, each}
 use Rattle.text.specs.Offsets.{kept}
 use Rattle.print.specs.Printing.{digits, decimal, lineText, refusalText}
-use Rattle.parts.specs.Parts.{resourcesOf, openingOf, readOpening, readInterval}
+use Rattle.parts.specs.Parts.{resourcesOf, openingOf, readOpening}
 use Rattle.parts.proofs.Examples.{opening-read, interval-text, reads-interval}
 use Rattle.page.proofs.Examples.{case-T as page-T}
-use Rattle.run.specs.Run.{pageOf, intervals, hourText, partsText, output}
+use Rattle.run.specs.Run.{pageOf, hourText, partsText, output}
 use Rattle.run.proofs.RunLaws.{accepted-text, parts-accepted, none-text}
 
 -- ---- Case T

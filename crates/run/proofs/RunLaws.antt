@@ -1,7 +1,7 @@
 -- Laws of specs/Run. Assumes nothing.
-use Prim.Native.Nat.{ℕ, zero, suc, _+_, _-_, _*_, _≤_, _<_}
+use Prim.Native.Nat.{ℕ, zero, suc, _+_, _≤_, _<_}
 use mathlib.Core.Path.{_≡_, refl, sym, ap, subst, _∙_}
-use mathlib.Core.List.{List, [], _∷_, _++_, append-nil}
+use mathlib.Core.List.{List, [], _∷_, _++_}
 use mathlib.Core.Bool.{Bool, true, false, cond}
 use native.Mathlib.Omega.{arith}
 use borrow.Author.Tests.{le-leb, lt-leb, lt-ltb, le-ltb, ltb-true, leb-true}
@@ -29,7 +29,7 @@ use Rattle.run.proofs.CountLaws.{Uses, opening-using}
 use Rattle.print.specs.declared.Printed.{Printed}
 use Rattle.print.specs.declared.Printed.the-variants.{To, Full}
 use Rattle.page.specs.Pages.{putWithin, putWithinTo}
-use Rattle.page.proofs.PageLaws.{line-few}
+use Rattle.print.proofs.PrintLaws.{line-few}
 
 -- a text that has room is put by a call that answers To
 module _ (room : ℕ) (out : List ℕ) (at : ℕ) (text last : List ℕ) (answer : Printed) (fits : at + room ≤ length out)

@@ -19,7 +19,7 @@ use Rattle.engine.specs.declared.Hour.{Hour}
 use Rattle.text.specs.Numbers.{Line, Row, bytes, row, same, joined, lines}
 use Rattle.text.proofs.LineLaws.{line, lines-some}
 use Rattle.text.proofs.LineLaws.{after as past}
-use Rattle.text.specs.Tables.{Reading, faulty, found, Reader, next, _▷_, taken, due, headed, single, ifSuits, hasId, andMore, run, rows, counting, counted, each, grouped, pairs}
+use Rattle.text.specs.Tables.{Reading, faulty, found, Reader, next, _▷_, taken, due, headed, single, ifSuits, hasId, andMore, run, rows, counted, each, grouped, pairs}
 use Rattle.parts.specs.Parts.{openingOf, readOpening, isFactor, placeOf, factorRows, intervalOf, parameterOf, readInterval}
 use Rattle.run.specs.Run.{pageOf, intervals, hourText, partsText, output}
 use Rattle.run.proofs.RunLaws.{accepted-text, parts-accepted, none-text}

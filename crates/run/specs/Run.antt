@@ -9,7 +9,6 @@ use Rattle.interval.specs.declared.Interval.{Interval}
 use Rattle.opening.specs.Openings.{openingRefusal}
 use Rattle.engine.specs.Openings.{openedHour}
 use Rattle.engine.specs.Hours.{hourRefusal, hourAfter, hourVerdicts}
-use Rattle.opening.specs.declared.Opening.{Opening}
 use Rattle.engine.specs.declared.Hour.{Hour}
 use Rattle.text.specs.Numbers.{Line, lines}
 use Rattle.text.specs.Tables.{Reading, faulty, found}

@@ -4,7 +4,6 @@ use borrow.Author.Needs.{needs}
 use lib.IntN.{pos}
 use lib.ListN.{replicate}
 use Rattle.resource.specs.declared.Resource.{Resource}
-use Rattle.opening_part.specs.declared.OpeningRead.{OpeningRead}
 use Rattle.opening_part.proofs.no_opening.Statement.{statement}
 use Rattle.opening_part.proofs.no_opening.Tie as tie
 

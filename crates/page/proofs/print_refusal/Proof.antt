@@ -11,7 +11,8 @@ use Rattle.number.proofs.Kit.{came}
 use Rattle.text.specs.Numbers.{Row, bytes}
 use Rattle.print.specs.Printing.{lineText, refusalText, printed, printedTo}
 use Rattle.page.specs.Pages.{printable, refusalRoom, hasRoom}
-use Rattle.page.proofs.PageLaws.{Putting, putting-start, putting-next, putting-done, within-none, within-some, put-both, line-few}
+use Rattle.print.proofs.PrintLaws.{line-few}
+use Rattle.page.proofs.PageLaws.{Putting, putting-start, putting-next, putting-done, within-none, within-some, put-both}
 use borrow.Author.Needs.{needs}
 use Rattle.page.proofs.print_refusal.Statement.{statement}
 use Rattle.page.proofs.print_refusal.Tie as tie

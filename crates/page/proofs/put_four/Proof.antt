@@ -8,7 +8,8 @@ use lib.IntN.{pos}
 use Rattle.number.proofs.Kit.{came}
 use Rattle.print.specs.Printing.{lineText, printed, printedTo}
 use Rattle.page.specs.Pages.{printable}
-use Rattle.page.proofs.PageLaws.{line-few, put-to, put-full}
+use Rattle.print.proofs.PrintLaws.{line-few}
+use Rattle.page.proofs.PageLaws.{put-to, put-full}
 use borrow.Author.Needs.{needs}
 use Rattle.page.proofs.put_four.Statement.{statement}
 use Rattle.page.proofs.put_four.Tie as tie

@@ -1,13 +1,12 @@
 -- `page::put_sellers` meets its contract. Assumes nothing.
 use Prim.Native.Nat.{ℕ, _+_, _-_, _*_, _≤_, _<_}
-use mathlib.Core.Path.{_≡_, sym, ap, _∙_}
-use mathlib.Core.List.{List, [], _∷_, map}
+use mathlib.Core.Path.{_≡_}
+use mathlib.Core.List.{List, map}
 use borrow.Author.Needs.{needs}
 use native.Mathlib.Omega.{arith}
 use lib.ListN.{length, drop, take, getD}
 use lib.Seq.{sets}
 use Rattle.number.proofs.OverLaws.{taken-at}
-use Rattle.path.specs.declared.Verdict.{Verdict}
 use Rattle.print.specs.Printing.{groupText, tableText}
 use Rattle.page.specs.Pages.{printable, sellerRows, sellerTable, shown}
 use Rattle.page.proofs.PageLaws.{Putting, putting-start, putting-next, putting-done, table-next, table-done, taken-length, noVerdict}

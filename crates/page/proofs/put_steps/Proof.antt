@@ -1,16 +1,15 @@
 -- `page::put_steps` meets its contract. Assumes nothing.
 use Prim.Native.Nat.{ℕ, _+_, _-_, _*_, _≤_, _<_}
-use mathlib.Core.Path.{_≡_, sym, ap, _∙_}
-use mathlib.Core.List.{List, [], _∷_, map}
+use mathlib.Core.Path.{_≡_, sym}
+use mathlib.Core.List.{List, _∷_, map}
 use borrow.Author.Needs.{needs}
 use native.Mathlib.Omega.{arith}
 use lib.ListN.{length, drop, getD, length-map}
 use lib.Seq.{sets}
-use lib.IntN.{ℤ, pos}
+use lib.IntN.{pos}
 use Rattle.number.proofs.Kit.{came}
 use Rattle.number.proofs.OverLaws.{taken-at}
 use Rattle.curve.specs.Curves.{blankStep}
-use Rattle.curve.specs.declared.Step.{Step}
 use Rattle.mitigation.specs.Mitigation.{usedSteps}
 use Rattle.print.specs.Printing.{lineText, groupText}
 use Rattle.page.specs.Pages.{printable, stepRow}

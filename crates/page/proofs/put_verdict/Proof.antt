@@ -9,7 +9,8 @@ use Rattle.number.proofs.Kit.{came}
 use Rattle.path.specs.Verdicts.{findingNumber}
 use Rattle.print.specs.Printing.{lineText, printed, printedTo}
 use Rattle.page.specs.Pages.{printable, verdictRow}
-use Rattle.page.proofs.PageLaws.{line-few, put-to, put-full, small-printable, finding-small}
+use Rattle.print.proofs.PrintLaws.{line-few}
+use Rattle.page.proofs.PageLaws.{put-to, put-full, small-printable, finding-small}
 use borrow.Author.Needs.{needs}
 use Rattle.page.proofs.put_verdict.Statement.{statement}
 use Rattle.page.proofs.put_verdict.Tie as tie

@@ -16,36 +16,33 @@ use Rattle.print.proofs.print_line.Tie as tie
 at-most-five-requires : tie.Need-at-most-five-requires
 at-most-five-requires c κs = search needs
 
-line-width-requires : tie.Need-line-width-requires
-line-width-requires c κs = omega (arith, c .at-most-five .ensures)
+line-fits-requires : tie.Need-line-fits-requires
+line-fits-requires c κs = omega (arith, c .at-most-five .ensures)
 
-has-room-requires : tie.Need-has-room-requires
-has-room-requires c κs = search needs
-
-same : (c : tie.After-has-room) → lineText (take (c .before .before .at-most-five .result) (c .before .before .before .before .args .v)) ≡ lineText (take (c .before .before .before .before .args .k) (c .before .before .before .before .args .v))
+same : (c : tie.After-line-fits) → lineText (take (c .before .at-most-five .result) (c .before .before .before .args .v)) ≡ lineText (take (c .before .before .before .args .k) (c .before .before .before .args .v))
 same c =
-    let s = c .before .before .before .before in
+    let s = c .before .before .before in
     let n : length (s .args .v) ≡ 5 = search needs in
-    ap (λ (j : ℕ). lineText (take j (s .args .v))) (c .before .before .at-most-five .ensures) ∙ ap lineText (first-most (s .args .v) (s .args .k) n)
+    ap (λ (j : ℕ). lineText (take j (s .args .v))) (c .before .at-most-five .ensures) ∙ ap lineText (first-most (s .args .v) (s .args .k) n)
 
 -- the test is whether the line fits
-tests : (c : tie.After-has-room) → c .has-room .result ≡ holds (c .before .before .before .before .args .out .now) (c .before .before .before .before .args .at) (lineText (take (c .before .before .before .before .args .k) (c .before .before .before .before .args .v)))
+tests : (c : tie.After-line-fits) → c .line-fits .result ≡ holds (c .before .before .before .args .out .now) (c .before .before .before .args .at) (lineText (take (c .before .before .before .args .k) (c .before .before .before .args .v)))
 tests c =
-    let a = c .before .before .before .before .args in
-    c .has-room .ensures ∙ ap (λ (n : ℕ). leb (a .at + n) (length (a .out .now))) (c .before .line-width .ensures ∙ ap length (same c))
+    let a = c .before .before .before .args in
+    c .line-fits .ensures ∙ ap (λ (l : List ℕ). leb (a .at + length l) (length (a .out .now))) (same c)
 
 returns : tie.Need-returns
 returns c =
-    let a = c .before .before .before .before .before .args in
-    prints-none (a .out .now) (a .at) (lineText (take (a .k) (a .v))) (sym (tests (c .before)) ∙ not-true (c .before .has-room .result) (c .if1 .taken))
+    let a = c .before .before .before .before .args in
+    prints-none (a .out .now) (a .at) (lineText (take (a .k) (a .v))) (sym (tests (c .before)) ∙ not-true (c .before .line-fits .result) (c .if1 .taken))
 
 put-line-requires : tie.Need-put-line-requires
 put-line-requires c κs =
     let r = c .before .before in
-    let a = r .before .before .before .before .args in (
-      omega (arith, r .before .before .at-most-five .ensures),
-      leb-true (a .at + length (lineText (take (r .before .before .at-most-five .result) (a .v)))) (length (a .out .now))
-          (ap (λ (l : List ℕ). leb (a .at + length l) (length (a .out .now))) (same r) ∙ sym (tests r) ∙ not-false (r .has-room .result) (c .before .if1 .left)),
+    let a = r .before .before .before .args in (
+      omega (arith, r .before .at-most-five .ensures),
+      leb-true (a .at + length (lineText (take (r .before .at-most-five .result) (a .v)))) (length (a .out .now))
+          (ap (λ (l : List ℕ). leb (a .at + length l) (length (a .out .now))) (same r) ∙ sym (tests r) ∙ not-false (r .line-fits .result) (c .before .if1 .left)),
     )
 
 same-length : tie.Need-same-length
@@ -55,9 +52,9 @@ returns-2 : tie.Need-returns-2
 returns-2 c =
     let p = c .before .before in
     let r = p .before .before .before in
-    let a = r .before .before .before .before .args in
-    prints (a .out .now) (a .at) (lineText (take (a .k) (a .v))) (p .put-line .last .0) (p .put-line .result) (sym (tests r) ∙ not-false (r .has-room .result) (p .before .before .if1 .left))
+    let a = r .before .before .before .args in
+    prints (a .out .now) (a .at) (lineText (take (a .k) (a .v))) (p .put-line .last .0) (p .put-line .result) (sym (tests r) ∙ not-false (r .line-fits .result) (p .before .before .if1 .left))
     (p .put-line .ensures .0 ∙ ap (sets (a .out .now) (a .at)) (same r)) (p .put-line .ensures .1 ∙ ap (λ (l : List ℕ). a .at + length l) (same r))
 
 pub print-line-spec : {M : Type 1} → statement M
-print-line-spec = tie.close (tie.spec at-most-five-requires line-width-requires has-room-requires returns put-line-requires same-length returns-2)
+print-line-spec = tie.close (tie.spec at-most-five-requires line-fits-requires returns put-line-requires same-length returns-2)

@@ -1,5 +1,5 @@
 -- `run::put_intervals` meets its contract. Assumes nothing.
-use Prim.Native.Nat.{ℕ, _+_, _-_, _≤_, _<_, min}
+use Prim.Native.Nat.{ℕ, _+_, _-_, min}
 use mathlib.Core.Path.{_≡_, sym, ap, ap₂, _∙_}
 use mathlib.Core.List.{List}
 use native.Mathlib.Omega.{arith}
@@ -7,11 +7,10 @@ use borrow.Author.Needs.{needs}
 use lib.ListN.{length, drop}
 use lib.Seq.{sets, length-sets}
 use Rattle.text.specs.Numbers.{Line, lines}
-use Rattle.text.specs.Tables.{Reading, faulty, found}
+use Rattle.text.specs.Tables.{faulty, found}
 use Rattle.curve.specs.Refusals.{outcomeNumber}
-use Rattle.interval.specs.declared.Interval.{Interval}
 use Rattle.path.specs.declared.Verdict.{Verdict}
-use Rattle.engine.specs.Hours.{hourRefusal, hourAfter, hourVerdicts}
+use Rattle.engine.specs.Hours.{hourRefusal}
 use Rattle.engine.specs.declared.Hour.{Hour}
 use Rattle.print.specs.Printing.{refusalText}
 use Rattle.parts.specs.Parts.{readInterval}

@@ -1,14 +1,10 @@
 -- `run::put_page` meets its contract. Assumes nothing.
-use Rattle.page.specs.Pages.{printable, pageText, pageRoom, refusalRoom}
-use Rattle.print.specs.Printing.{refusalText}
+use Rattle.page.specs.Pages.{pageText, pageRoom}
 use native.Mathlib.Omega.{arith}
 use Rattle.run.proofs.RunLaws.{put-to, put-full}
 use borrow.Author.Needs.{needs}
 use Rattle.run.proofs.put_page.Statement.{statement}
 use Rattle.run.proofs.put_page.Tie as tie
-use Rattle.run.proofs.put_page.Reads as reads
-use Rattle.run.proofs.put_page.Lts as lts
-use Rattle.page.proofs.print_page.Reads as print-page-reads
 
 print-page-requires : tie.Need-print-page-requires
 print-page-requires c κs = search needs

@@ -9,14 +9,13 @@ use lib.Seq.{sets, length-sets}
 use Rattle.curve.specs.Refusals.{outcomeNumber}
 use Rattle.curve.proofs.RefusalLaws.{refused-number}
 use Rattle.opening.specs.Openings.{openingRefusal}
-use Rattle.engine.specs.Openings.{openedHour}
 use Rattle.engine.specs.declared.Hour.{Hour}
-use Rattle.text.specs.Numbers.{Line, lines}
+use Rattle.text.specs.Numbers.{lines}
 use Rattle.text.specs.Tables.{faulty, found}
 use Rattle.print.specs.Printing.{refusalText}
 use Rattle.text.proofs.LineLaws.{lines-few}
 use Rattle.parts.specs.Parts.{readOpening}
-use Rattle.run.specs.Run.{hourText, partsText}
+use Rattle.run.specs.Run.{hourText}
 use Rattle.run.proofs.RunLaws.{number-few, parts-faulty, parts-faulty-few, parts-refused, parts-accepted, parts-left, opened-fresh}
 use Rattle.run.proofs.GoingLaws.{positive, read-faulty, read-found}
 use Rattle.run.proofs.put_parts.Statement.{statement}

@@ -11,9 +11,6 @@ use Rattle.run.proofs.RunLaws.{put-to, put-full, refusal-few}
 use borrow.Author.Needs.{needs}
 use Rattle.run.proofs.put_refusal.Statement.{statement}
 use Rattle.run.proofs.put_refusal.Tie as tie
-use Rattle.run.proofs.put_refusal.Reads as reads
-use Rattle.run.proofs.put_refusal.Lts as lts
-use Rattle.page.proofs.print_refusal.Reads as print-refusal-reads
 
 -- small numbers are printed as they are
 shown : (n l : ℕ) → n ≤ 18 → l ≤ 200000 → refusalText (printable n) (printable l) ≡ refusalText n l

@@ -1,8 +1,7 @@
 -- `parts::intervals::factor_at` meets its contract. Assumes nothing.
-use Prim.Native.Nat.{ℕ, _+_, _<_}
+use Prim.Native.Nat.{ℕ, _+_}
 use mathlib.Core.Path.{_≡_, refl, sym, ap, _∙_}
 use mathlib.Core.Bool.{true}
-use mathlib.Core.Option.{some}
 use borrow.Author.Needs.{needs}
 use borrow.Author.Tests.{not-true, not-false}
 use native.Mathlib.Omega.{arith}
@@ -15,8 +14,7 @@ use Rattle.text.specs.Numbers.{row}
 use Rattle.text.specs.Tables.{cell}
 use Rattle.text.specs.Offsets.{lineAt, asRow}
 use Rattle.text.proofs.RowLaws.{Held, held, not-held}
-use Rattle.parts.specs.Parts.{isDeclared, place, placeOf, isFactor, factorCell}
-use Rattle.parts.specs.Shown.{asFactor}
+use Rattle.parts.specs.Parts.{isDeclared, place, isFactor, factorCell}
 use Rattle.parts.proofs.FactorLaws.{row-of, no-row, unsuited, suited, factor-undeclared, factor-unconstrained, factor-placed, declared-below}
 use Rattle.parts.specs.declared.intervals.Factor.{Factor}
 use Rattle.parts.proofs.intervals.factor_at.Statement.{statement}

@@ -1,5 +1,4 @@
 -- `parts::intervals::factor_cell` meets its contract. Assumes nothing.
-use mathlib.Core.Path.{_≡_}
 use borrow.Author.Needs.{needs}
 use borrow.Author.Tests.{le-ltb, lt-ltb}
 use Rattle.parts.proofs.intervals.factor_cell.Statement.{statement}

@@ -1,9 +1,8 @@
 -- `parts::intervals::factors_at` meets its contract. Assumes nothing.
 use Prim.Native.Nat.{ℕ, _+_, _≤_}
 use native.Mathlib.Omega.{arith}
-use borrow.Author.Needs.{needs}
 use borrow.Author.Tests.{not-true, not-false}
-use mathlib.Core.Path.{_≡_, refl, sym, ap, _∙_}
+use mathlib.Core.Path.{_≡_, sym, ap, _∙_}
 use mathlib.Core.List.{List, []}
 use mathlib.Core.Logic.{⊎-elim}
 use lib.ListN.{length, drop, set, replicate, length-drop}
@@ -13,7 +12,6 @@ use Rattle.number.specs.Order.{natOf}
 use Rattle.number.proofs.Kit.{came}
 use Rattle.text.specs.Numbers.{Line, lines, row}
 use Rattle.text.specs.Tables.{cell, ifSuits}
-use Rattle.text.specs.Offsets.{lineAt}
 use Rattle.text.proofs.LineLaws.{line, line-at, lines-few}
 use Rattle.text.proofs.TableLaws.{ends}
 use Rattle.parts.specs.Parts.{place, isFactor, factorCell, factorRows, withFactors}

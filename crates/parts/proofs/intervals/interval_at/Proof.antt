@@ -5,13 +5,11 @@ use borrow.Author.Needs.{needs}
 use mathlib.Core.Path.{_≡_, refl, sym, ap, _∙_}
 use mathlib.Core.List.{List}
 use lib.ListN.{length, drop, replicate}
-use lib.IntN.{ℤ, pos}
+use lib.IntN.{pos}
 use Rattle.number.proofs.Kit.{came}
 use Rattle.interval.specs.declared.Interval.{Interval}
-use Rattle.text.specs.Numbers.{Row, bytes, lines}
-use Rattle.text.specs.Tables.{Reading, found, headed, counting, counted, rows}
-use Rattle.text.specs.Offsets.{namesAt}
-use Rattle.text.specs.declared.lines.Found.the-variants.{At, Nothing}
+use Rattle.text.specs.Numbers.{Row, lines}
+use Rattle.text.specs.Tables.{found, headed, counting, counted, rows}
 use Rattle.parts.specs.Parts.{factorRows, withFactors, intervalOf, readInterval}
 use Rattle.parts.specs.declared.intervals.IntervalRead.{IntervalRead}
 use Rattle.parts.proofs.ReadLaws.{refuses, refuses-after, alone}

@@ -16,7 +16,7 @@ use Rattle.text.specs.Tables.{cell, hasId, ifSuits, counting}
 use Rattle.text.specs.Offsets.{kept, asRow}
 use Rattle.text.proofs.LineLaws.{line, lines-few}
 use Rattle.text.proofs.RowLaws.{row-in, Held, held, not-held}
-use Rattle.text.proofs.TableLaws.{Loop, Ended, room, ends, Turned, turns, kept-length}
+use Rattle.text.proofs.TableLaws.{Loop, room, ends, Turned, turns, kept-length}
 use Rattle.parts.proofs.intervals.outputs_at.Statement.{statement}
 use Rattle.parts.proofs.intervals.outputs_at.Tie as tie
 
