@@ -18,39 +18,10 @@ use Rattle.text.specs.Offsets.{kept}
 use Rattle.text.proofs.ListLaws.{sets-read}
 use Rattle.text.proofs.TableLaws.{kept-length}
 use Rattle.parts.specs.Parts.{bidOf, costsOf, resourceOf, resourcesOf}
-use Rattle.opening_part.specs.Shown.{joined, listFrom, faultAlone, aloneIf}
+use Rattle.resource_part.specs.Joined.{joined}
+use Rattle.opening_part.specs.Shown.{listFrom, faultAlone, aloneIf}
 use Rattle.opening_part.specs.declared.OpeningRead.{OpeningRead}
 use Rattle.opening_part.specs.declared.tables.Owners.{Owners}
-
--- costs by their prices, rates and fee
-pub prices-by : {n : ℕ} {l : List Point} {a a' b b' c c' d d' e e' f f' g g' : ℤ} → a ≡ a' → b ≡ b' → c ≡ c' → d ≡ d' → e ≡ e' → f ≡ f' → g ≡ g'
-    → _≡_ {A = Costs} (record { count = n; points = l; gas = a; rate = b; allowance = c; om = d; msc = e; soc = f; fee = g })
-    (record { count = n; points = l; gas = a'; rate = b'; allowance = c'; om = d'; msc = e'; soc = f'; fee = g' })
-prices-by a b c d e f g = cc
-
-pub prices-same : (v : List ℤ) (x : Row) → ((j : ℕ) → j < 8 → getD v j (pos 0) ≡ cell j x) → costsOf [] v ≡ costsOf [] x
-prices-same v x h =
-    prices-by (h 1 (omega arith)) (h 2 (omega arith)) (h 3 (omega arith)) (h 4 (omega arith)) (h 5 (omega arith)) (h 6 (omega arith)) (h 7 (omega arith))
-
--- a resource by its values
-pub joined-by : (b : RawCurve) (p : Costs) {o o' s s' a a' c c' d d' e e' f f' g g' h h' : ℤ} {k k' : RawCurve}
-    → o ≡ o' → s ≡ s' → a ≡ a' → c ≡ c' → d ≡ d' → e ≡ e' → f ≡ f' → g ≡ g' → h ≡ h' → k ≡ k'
-    → _≡_ {A = Resource}
-    (record {
-      portfolio = o;
-      bid = record { start = s; count = b .count; steps = b .steps };
-      source = source.Costs;
-      costs = record { count = p .count; points = p .points; gas = a; rate = c; allowance = d; om = e; msc = f; soc = g; fee = h };
-      pack = k;
-    })
-    (record {
-      portfolio = o';
-      bid = record { start = s'; count = b .count; steps = b .steps };
-      source = source.Costs;
-      costs = record { count = p .count; points = p .points; gas = a'; rate = c'; allowance = d'; om = e'; msc = f'; soc = g'; fee = h' };
-      pack = k';
-    })
-joined-by b p o s a c d e f g h k = cc
 
 -- ---- the first 64 resources
 other-blank : {A : Type 0} (d e : A) (l : List A) (i : ℕ) → i < length l → getD l i d ≡ getD l i e

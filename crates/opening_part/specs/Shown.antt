@@ -17,50 +17,13 @@ use Rattle.text.specs.Offsets.{kept}
 use Rattle.text.specs.declared.tables.Portfolios.{Portfolios}
 use Rattle.parts.specs.Parts.{bidOf, costsOf, resourceOf}
 use Rattle.parts.specs.Shown.{reading}
+use Rattle.resource_part.specs.Joined.{joined}
 use Rattle.opening_part.specs.declared.tables.Owners.{Owners}
 use Rattle.opening_part.specs.declared.OpeningRead.{OpeningRead}
-
--- a bid with its steps alone
-abbrev pub withSteps : ℕ → List RawStep → RawCurve
-withSteps count steps = record { start = pos 0; count = count; steps = steps }
-
--- costs with their points alone
-abbrev pub withPoints : ℕ → List Point → Costs
-withPoints count points = record {
-  count = count;
-  points = points;
-  gas = pos 0;
-  rate = pos 0;
-  allowance = pos 0;
-  om = pos 0;
-  msc = pos 0;
-  soc = pos 0;
-  fee = pos 0;
-}
 
 -- what is read of each resource, the first n of them kept in an array
 abbrev pub keeping : {A X : Type 0} → ℕ → X → (A → X) → Reading (List A) → Reading (List X)
 keeping n blank f r = next r (λ xs. found (kept n blank (map f xs)))
-
--- a resource whose portfolio, start, steps, points and prices were read table by table
-abbrev pub joined : ℤ → ℤ → RawCurve → Costs → Costs → Resource
-joined portfolio start bid points prices = record {
-  portfolio = portfolio;
-  bid = record { start = start; count = bid .count; steps = bid .steps };
-  source = source.Costs;
-  costs = record {
-    count = points .count;
-    points = points .points;
-    gas = prices .gas;
-    rate = prices .rate;
-    allowance = prices .allowance;
-    om = prices .om;
-    msc = prices .msc;
-    soc = prices .soc;
-    fee = prices .fee;
-  };
-  pack = bidOf (pos 0) [];
-}
 
 -- the first 64 resources
 unfoldable pub listFrom : Owners → List RawCurve → List Costs → List Costs → List Resource

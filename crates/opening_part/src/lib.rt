@@ -7,8 +7,6 @@ use crate::tables::CostsRead;
 use crate::tables::Owners;
 use crate::tables::bids_at;
 use crate::tables::costs_at;
-use crate::tables::no_bid;
-use crate::tables::no_costs;
 use crate::tables::owners_at;
 use crate::tables::points_at;
 use cost::Costs;
@@ -19,7 +17,8 @@ use parts::values::at_most_lines;
 use path::Market;
 use reader::row_of;
 use resource::Resource;
-use resource::Source;
+use resource_part::no_resource;
+use resource_part::resource_of;
 use text::lines::Found;
 use text::lines::line_is;
 use text::tables::Portfolios;
@@ -29,8 +28,8 @@ ghost use mathlib.Core.List.{[]};
 ghost use Prim.Native.Nat.{_+_, _≤_, min};
 ghost use lib.ListN.{length, drop};
 ghost use Rattle.text.specs.Numbers.{lines};
-ghost use Rattle.parts.specs.Parts.{resourceOf, readOpening};
-ghost use Rattle.opening_part.specs.Shown.{joined, listFrom, openingFrom, readRest, shownOpening, faultAlone, aloneIf};
+ghost use Rattle.parts.specs.Parts.{readOpening};
+ghost use Rattle.opening_part.specs.Shown.{listFrom, openingFrom, readRest, shownOpening, faultAlone, aloneIf};
 
 // What reading the part that opens an hour answers: the opening, the number of its last line and the offset of the next, or the number of the faulty line.
 pub struct OpeningRead {
@@ -38,42 +37,6 @@ pub struct OpeningRead {
     pub opening: Opening,
     pub line: usize,
     pub next: usize,
-}
-
-// A resource whose values were read table by table.
-fn resource_of(portfolio: i64, start: i64, bid: RawCurve, points: Costs, prices: Costs) -> Resource
-    ensures { λ x. ⌜ x ≡ joined portfolio start bid points prices ⌝ }
-{
-    let steps = bid.steps;
-    let list = points.points;
-    let pack = no_bid();
-    Resource {
-        portfolio,
-        bid: RawCurve {
-            start,
-            count: bid.count,
-            steps,
-        },
-        source: Source::Costs,
-        costs: Costs {
-            count: points.count,
-            points: list,
-            gas: prices.gas,
-            rate: prices.rate,
-            allowance: prices.allowance,
-            om: prices.om,
-            msc: prices.msc,
-            soc: prices.soc,
-            fee: prices.fee,
-        },
-        pack,
-    }
-}
-
-fn no_resource() -> Resource
-    ensures { λ x. ⌜ x ≡ resourceOf [] [] [] [] ⌝ }
-{
-    resource_of(0, 0, no_bid(), no_costs(), no_costs())
 }
 
 // The first 64 resources.

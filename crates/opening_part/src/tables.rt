@@ -5,6 +5,12 @@ use curve::Curve;
 use curve::RawCurve;
 use curve::RawStep;
 use engine::Hour;
+use resource_part::is_of;
+use resource_part::no_bid;
+use resource_part::no_costs;
+use resource_part::priced;
+use resource_part::with_points;
+use resource_part::with_steps;
 use text::lines::Row;
 use text::lines::id_row_at;
 use text::lines::row_at;
@@ -13,13 +19,12 @@ ghost use mathlib.Core.List.{[], map};
 ghost use Prim.Native.Nat.{_+_, _≤_};
 ghost use lib.ListN.{length, drop};
 ghost use lib.IntN.{pos};
-ghost use Rattle.number.specs.Order.{eqZ};
 ghost use Rattle.text.specs.Numbers.{lines};
 ghost use Rattle.text.specs.Tables.{cell, counting, found, grouped, pairs, each};
 ghost use Rattle.text.specs.Offsets.{kept, rowAt};
 ghost use Rattle.parts.specs.Parts.{bidOf, costsOf};
 ghost use Rattle.parts.specs.Shown.{reading};
-ghost use Rattle.opening_part.specs.Shown.{withSteps, withPoints, keeping};
+ghost use Rattle.opening_part.specs.Shown.{keeping};
 
 // The resource table: how many lines it has, the portfolios and starts of the first 64, and the offset of the line after it.
 pub(crate) struct Owners {
@@ -89,27 +94,6 @@ pub(crate) fn owners_at(s: &[u8], at: usize) -> Owners
     }
 }
 
-// Whether a value is the id of resource r.
-fn is_of(r: usize, x: i64) -> bool
-    ensures { λ b. ⌜ b ≡ eqZ (pos r) x ⌝ }
-{
-    if x < 0 {
-        return false;
-    }
-    r == x as u64 as usize
-}
-
-// A bid with its steps alone.
-fn with_steps(count: usize, steps: [RawStep; Curve::MAX_STEPS]) -> RawCurve
-    ensures { λ r. ⌜ r ≡ withSteps count steps ⌝ }
-{
-    RawCurve {
-        start: 0,
-        count,
-        steps,
-    }
-}
-
 // The steps of resource r, from the line at an offset on, which is read already.
 fn steps_of(s: &[u8], at: usize, first: Row, r: usize) -> Steps
     requires { ⌜ first ≡ rowAt (now s) at 3 ⌝ }
@@ -147,35 +131,6 @@ fn steps_of(s: &[u8], at: usize, first: Row, r: usize) -> Steps
         row,
         next,
     }
-}
-
-// Costs with their points alone.
-fn with_points(count: usize, points: [Point; Costs::MAX_POINTS]) -> Costs
-    ensures { λ r. ⌜ r ≡ withPoints count points ⌝ }
-{
-    Costs {
-        count,
-        points,
-        gas: 0,
-        rate: 0,
-        allowance: 0,
-        om: 0,
-        msc: 0,
-        soc: 0,
-        fee: 0,
-    }
-}
-
-pub(crate) fn no_costs() -> Costs
-    ensures { λ r. ⌜ r ≡ costsOf [] [] ⌝ }
-{
-    with_points(0, [Point { mw: 0, heat: 0 }; Costs::MAX_POINTS])
-}
-
-pub(crate) fn no_bid() -> RawCurve
-    ensures { λ r. ⌜ r ≡ bidOf (pos 0) [] ⌝ }
-{
-    with_steps(0, [RawStep { end: 0, price: 0 }; Curve::MAX_STEPS])
 }
 
 // The points of resource r, from the line at an offset on, which is read already.
@@ -271,23 +226,6 @@ pub(crate) fn points_at(s: &[u8], at: usize, m: usize, n: usize) -> CostsRead
         costs,
         line,
         next,
-    }
-}
-
-// Costs with the prices, rates and fee of a cost line alone.
-fn priced(v: [i64; 8]) -> Costs
-    ensures { λ r. ⌜ r ≡ costsOf [] v ⌝ }
-{
-    Costs {
-        count: 0,
-        points: [Point { mw: 0, heat: 0 }; Costs::MAX_POINTS],
-        gas: v[1],
-        rate: v[2],
-        allowance: v[3],
-        om: v[4],
-        msc: v[5],
-        soc: v[6],
-        fee: v[7],
     }
 }
 

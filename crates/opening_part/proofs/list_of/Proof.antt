@@ -18,7 +18,8 @@ use Rattle.cost.specs.declared.Costs.{Costs}
 use Rattle.opening.specs.Openings.{noRaw, noCosts}
 use Rattle.resource.specs.declared.Resource.{Resource}
 use Rattle.parts.specs.Parts.{resourceOf}
-use Rattle.opening_part.specs.Shown.{joined, listFrom}
+use Rattle.resource_part.specs.Joined.{joined}
+use Rattle.opening_part.specs.Shown.{listFrom}
 use Rattle.opening_part.proofs.list_of.Statement.{statement}
 use Rattle.opening_part.proofs.list_of.Tie as tie
 

@@ -18,7 +18,7 @@ use Rattle.parts.specs.Parts.{costsOf}
 use Rattle.opening_part.specs.Shown.{keeping}
 use Rattle.parts.proofs.ReadLaws.{refuses-after}
 use Rattle.opening_part.proofs.KeepLaws.{Pricing, pricing-start, pricing-end, pricing-none, pricing-turn}
-use Rattle.opening_part.proofs.OpeningLaws.{prices-same}
+use Rattle.resource_part.proofs.JoinedLaws.{prices-same}
 use Rattle.opening_part.proofs.tables.costs_at.Statement.{statement}
 use Rattle.opening_part.proofs.tables.costs_at.Tie as tie
 

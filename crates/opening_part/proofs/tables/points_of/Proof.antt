@@ -21,7 +21,7 @@ use Rattle.text.proofs.LineLaws.{line, lines-few}
 use Rattle.text.proofs.RowLaws.{Held}
 use Rattle.text.proofs.TableLaws.{Loop, room, ends, Turned, turns, kept-length}
 use Rattle.parts.specs.Parts.{pointOf}
-use Rattle.opening_part.specs.Shown.{withPoints}
+use Rattle.resource_part.specs.Joined.{withPoints}
 use Rattle.opening_part.proofs.GroupLaws.{no-line, other-line, own-line}
 use Rattle.opening_part.proofs.tables.points_of.Statement.{statement}
 use Rattle.opening_part.proofs.tables.points_of.Tie as tie

@@ -21,7 +21,7 @@ use Rattle.text.proofs.LineLaws.{line, lines-few}
 use Rattle.text.proofs.RowLaws.{Held}
 use Rattle.text.proofs.TableLaws.{Loop, room, ends, Turned, turns, kept-length}
 use Rattle.parts.specs.Parts.{stepOf}
-use Rattle.opening_part.specs.Shown.{withSteps}
+use Rattle.resource_part.specs.Joined.{withSteps}
 use Rattle.opening_part.proofs.GroupLaws.{no-line, other-line, own-line}
 use Rattle.opening_part.proofs.tables.steps_of.Statement.{statement}
 use Rattle.opening_part.proofs.tables.steps_of.Tie as tie

@@ -1,9 +1,9 @@
--- `opening_part::resource_of` meets its contract. Assumes nothing.
+-- `resource_part::resource_of` meets its contract. Assumes nothing.
 use borrow.Author.Needs.{needs}
 use Rattle.number.proofs.Kit.{came}
-use Rattle.opening_part.proofs.OpeningLaws.{joined-by}
-use Rattle.opening_part.proofs.resource_of.Statement.{statement}
-use Rattle.opening_part.proofs.resource_of.Tie as tie
+use Rattle.resource_part.proofs.JoinedLaws.{joined-by}
+use Rattle.resource_part.proofs.resource_of.Statement.{statement}
+use Rattle.resource_part.proofs.resource_of.Tie as tie
 
 no-bid-requires : tie.Need-no-bid-requires
 no-bid-requires c κs = search needs

@@ -1,8 +1,8 @@
--- `opening_part::tables::is_of` meets its contract. Assumes nothing.
+-- `resource_part::is_of` meets its contract. Assumes nothing.
 use Rattle.number.proofs.Kit.{came}
 use Rattle.text.proofs.IntegerLaws.{id-negative, id-cast, id-natural}
-use Rattle.opening_part.proofs.tables.is_of.Statement.{statement}
-use Rattle.opening_part.proofs.tables.is_of.Tie as tie
+use Rattle.resource_part.proofs.is_of.Statement.{statement}
+use Rattle.resource_part.proofs.is_of.Tie as tie
 
 returns : tie.Need-returns
 returns c =

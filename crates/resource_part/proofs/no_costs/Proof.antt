@@ -1,8 +1,8 @@
--- `opening_part::tables::no_costs` meets its contract. Assumes nothing.
+-- `resource_part::no_costs` meets its contract. Assumes nothing.
 use borrow.Author.Needs.{needs}
 use Rattle.text.specs.Offsets.{kept}
-use Rattle.opening_part.proofs.tables.no_costs.Statement.{statement}
-use Rattle.opening_part.proofs.tables.no_costs.Tie as tie
+use Rattle.resource_part.proofs.no_costs.Statement.{statement}
+use Rattle.resource_part.proofs.no_costs.Tie as tie
 
 with-points-requires : tie.Need-with-points-requires
 with-points-requires c κs = search needs

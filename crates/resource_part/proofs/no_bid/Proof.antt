@@ -1,8 +1,8 @@
--- `opening_part::tables::no_bid` meets its contract. Assumes nothing.
+-- `resource_part::no_bid` meets its contract. Assumes nothing.
 use borrow.Author.Needs.{needs}
 use Rattle.text.specs.Offsets.{kept}
-use Rattle.opening_part.proofs.tables.no_bid.Statement.{statement}
-use Rattle.opening_part.proofs.tables.no_bid.Tie as tie
+use Rattle.resource_part.proofs.no_bid.Statement.{statement}
+use Rattle.resource_part.proofs.no_bid.Tie as tie
 
 with-steps-requires : tie.Need-with-steps-requires
 with-steps-requires c κs = search needs

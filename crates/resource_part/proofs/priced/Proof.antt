@@ -1,12 +1,12 @@
--- `opening_part::tables::priced` meets its contract. Assumes nothing.
+-- `resource_part::priced` meets its contract. Assumes nothing.
 use borrow.Author.Needs.{needs}
 use lib.ListN.{getD}
 use lib.IntN.{pos}
 use Rattle.text.specs.Offsets.{kept}
 use Rattle.number.proofs.Kit.{came}
-use Rattle.opening_part.proofs.OpeningLaws.{prices-by}
-use Rattle.opening_part.proofs.tables.priced.Statement.{statement}
-use Rattle.opening_part.proofs.tables.priced.Tie as tie
+use Rattle.resource_part.proofs.JoinedLaws.{prices-by}
+use Rattle.resource_part.proofs.priced.Statement.{statement}
+use Rattle.resource_part.proofs.priced.Tie as tie
 
 array-copy-out-t7 : tie.Need-array-copy-out-t7
 array-copy-out-t7 c = search needs

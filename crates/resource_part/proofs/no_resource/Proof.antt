@@ -1,4 +1,4 @@
--- `opening_part::no_resource` meets its contract. Assumes nothing.
+-- `resource_part::no_resource` meets its contract. Assumes nothing.
 use mathlib.Core.Path.{ap, _∙_}
 use mathlib.Core.List.{[]}
 use borrow.Author.Needs.{needs}
@@ -6,9 +6,9 @@ use lib.IntN.{pos}
 use Rattle.curve.specs.declared.RawCurve.{RawCurve}
 use Rattle.cost.specs.declared.Costs.{Costs}
 use Rattle.parts.specs.Parts.{bidOf, costsOf}
-use Rattle.opening_part.specs.Shown.{joined}
-use Rattle.opening_part.proofs.no_resource.Statement.{statement}
-use Rattle.opening_part.proofs.no_resource.Tie as tie
+use Rattle.resource_part.specs.Joined.{joined}
+use Rattle.resource_part.proofs.no_resource.Statement.{statement}
+use Rattle.resource_part.proofs.no_resource.Tie as tie
 
 no-bid-requires : tie.Need-no-bid-requires
 no-bid-requires c κs = search needs
