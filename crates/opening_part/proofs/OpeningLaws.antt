@@ -19,9 +19,10 @@ use Rattle.text.proofs.ListLaws.{sets-read}
 use Rattle.text.proofs.TableLaws.{kept-length}
 use Rattle.parts.specs.Parts.{bidOf, costsOf, resourceOf, resourcesOf}
 use Rattle.resource_part.specs.Joined.{joined}
-use Rattle.opening_part.specs.Shown.{listFrom, faultAlone, aloneIf}
+use Rattle.resource_part.specs.Joined.{listFrom}
+use Rattle.opening_part.specs.Shown.{faultAlone, aloneIf}
 use Rattle.opening_part.specs.declared.OpeningRead.{OpeningRead}
-use Rattle.opening_part.specs.declared.tables.Owners.{Owners}
+use Rattle.resource_part.specs.declared.Owners.{Owners}
 
 -- ---- the first 64 resources
 other-blank : {A : Type 0} (d e : A) (l : List A) (i : ℕ) → i < length l → getD l i d ≡ getD l i e

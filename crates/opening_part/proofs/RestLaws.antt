@@ -21,7 +21,7 @@ use Rattle.text.proofs.NameLaws.{not-headed, past-names}
 use Rattle.parts.specs.Parts.{bidOf, costsOf, openingOf, readOpening}
 use Rattle.parts.specs.Shown.{reading}
 use Rattle.opening_part.specs.Shown.{keeping, openingFrom, readRest}
-use Rattle.opening_part.specs.declared.tables.Owners.{Owners}
+use Rattle.resource_part.specs.declared.Owners.{Owners}
 use Rattle.text.proofs.LineLaws.{line}
 use Rattle.parts.proofs.ReadLaws.{refuses, value-missing, value-found}
 use Rattle.parts.proofs.StageLaws.{Stage, names-few, run-few, table}

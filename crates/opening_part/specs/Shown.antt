@@ -17,18 +17,13 @@ use Rattle.text.specs.Offsets.{kept}
 use Rattle.text.specs.declared.tables.Portfolios.{Portfolios}
 use Rattle.parts.specs.Parts.{bidOf, costsOf, resourceOf}
 use Rattle.parts.specs.Shown.{reading}
-use Rattle.resource_part.specs.Joined.{joined}
-use Rattle.opening_part.specs.declared.tables.Owners.{Owners}
+use Rattle.resource_part.specs.Joined.{listFrom}
+use Rattle.resource_part.specs.declared.Owners.{Owners}
 use Rattle.opening_part.specs.declared.OpeningRead.{OpeningRead}
 
 -- what is read of each resource, the first n of them kept in an array
 abbrev pub keeping : {A X : Type 0} → ℕ → X → (A → X) → Reading (List A) → Reading (List X)
 keeping n blank f r = next r (λ xs. found (kept n blank (map f xs)))
-
--- the first 64 resources
-unfoldable pub listFrom : Owners → List RawCurve → List Costs → List Costs → List Resource
-listFrom os bids points prices =
-    listed (λ k. joined (getD (os .portfolio) k (pos 0)) (getD (os .start) k (pos 0)) (getD bids k noRaw) (getD points k noCosts) (getD prices k noCosts)) 64
 
 abbrev pub openingFrom : ℤ → Portfolios → Owners → List RawCurve → List Costs → List Costs → Opening
 openingFrom month ps os bids points prices = record {

@@ -4,10 +4,8 @@ mod tables;
 
 use crate::tables::Bids;
 use crate::tables::CostsRead;
-use crate::tables::Owners;
 use crate::tables::bids_at;
 use crate::tables::costs_at;
-use crate::tables::owners_at;
 use crate::tables::points_at;
 use cost::Costs;
 use curve::RawCurve;
@@ -17,8 +15,10 @@ use parts::values::at_most_lines;
 use path::Market;
 use reader::row_of;
 use resource::Resource;
+use resource_part::Owners;
+use resource_part::list_of;
 use resource_part::no_resource;
-use resource_part::resource_of;
+use resource_part::owners_at;
 use text::lines::Found;
 use text::lines::line_is;
 use text::tables::Portfolios;
@@ -29,7 +29,7 @@ ghost use Prim.Native.Nat.{_+_, _≤_, min};
 ghost use lib.ListN.{length, drop};
 ghost use Rattle.text.specs.Numbers.{lines};
 ghost use Rattle.parts.specs.Parts.{readOpening};
-ghost use Rattle.opening_part.specs.Shown.{listFrom, openingFrom, readRest, shownOpening, faultAlone, aloneIf};
+ghost use Rattle.opening_part.specs.Shown.{openingFrom, readRest, shownOpening, faultAlone, aloneIf};
 
 // What reading the part that opens an hour answers: the opening, the number of its last line and the offset of the next, or the number of the faulty line.
 pub struct OpeningRead {
@@ -37,32 +37,6 @@ pub struct OpeningRead {
     pub opening: Opening,
     pub line: usize,
     pub next: usize,
-}
-
-// The first 64 resources.
-fn list_of(
-    owners: Owners,
-    bids: [RawCurve; Hour::MAX_RESOURCES],
-    points: [Costs; Hour::MAX_RESOURCES],
-    prices: [Costs; Hour::MAX_RESOURCES],
-) -> [Resource; Hour::MAX_RESOURCES]
-    ensures { λ l. ⌜ l ≡ listFrom owners bids points prices ⌝ }
-{
-    let portfolio = owners.portfolio;
-    let start = owners.start;
-    let mut list = [no_resource(); Hour::MAX_RESOURCES];
-    let mut k: usize = 0;
-    while k < Hour::MAX_RESOURCES {
-        let bid = bids[k];
-        let heat = points[k];
-        let price = prices[k];
-        let owner = portfolio[k];
-        let from = start[k];
-        let resource = resource_of(owner, from, bid, heat, price);
-        list[k] = resource;
-        k += 1;
-    }
-    list
 }
 
 // The opening of its six tables.

@@ -26,14 +26,6 @@ ghost use Rattle.parts.specs.Parts.{bidOf, costsOf};
 ghost use Rattle.parts.specs.Shown.{reading};
 ghost use Rattle.opening_part.specs.Shown.{keeping};
 
-// The resource table: how many lines it has, the portfolios and starts of the first 64, and the offset of the line after it.
-pub(crate) struct Owners {
-    pub(crate) count: usize,
-    pub(crate) portfolio: [i64; Hour::MAX_RESOURCES],
-    pub(crate) start: [i64; Hour::MAX_RESOURCES],
-    pub(crate) next: usize,
-}
-
 // A resource's steps, with the line after them and its offset.
 struct Steps {
     bid: RawCurve,
@@ -61,37 +53,6 @@ pub(crate) struct CostsRead {
     pub(crate) costs: [Costs; Hour::MAX_RESOURCES],
     pub(crate) line: usize,
     pub(crate) next: usize,
-}
-
-// The resource table's lines of values at an offset.
-pub(crate) fn owners_at(s: &[u8], at: usize) -> Owners
-    ensures { λ r. ⌜ r .count ≡ length (counting 3 (lines (drop at (now (s .entry))))) ⌝ }
-    ensures { λ r. ⌜ r .portfolio ≡ kept 64 (pos 0) (map (cell 1) (counting 3 (lines (drop at (now (s .entry)))))) ⌝ }
-    ensures { λ r. ⌜ r .start ≡ kept 64 (pos 0) (map (cell 2) (counting 3 (lines (drop at (now (s .entry)))))) ⌝ }
-    ensures { λ r. ⌜ lines (drop (r .next) (now (s .entry))) ≡ drop (r .count) (lines (drop at (now (s .entry)))) ⌝ }
-{
-    let mut portfolio = [0i64; Hour::MAX_RESOURCES];
-    let mut start = [0i64; Hour::MAX_RESOURCES];
-    let mut count = 0;
-    let mut next = at;
-    loop {
-        let row = id_row_at(s, next, 3, count);
-        let v = row.v;
-        if !row.ok {
-            return Owners {
-                count,
-                portfolio,
-                start,
-                next,
-            };
-        }
-        if count < Hour::MAX_RESOURCES {
-            portfolio[count] = v[1];
-            start[count] = v[2];
-        }
-        count += 1;
-        next = row.next;
-    }
 }
 
 // The steps of resource r, from the line at an offset on, which is read already.

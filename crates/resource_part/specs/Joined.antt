@@ -2,6 +2,9 @@
 use Prim.Native.Nat.{ℕ}
 use mathlib.Core.List.{List, []}
 use lib.IntN.{ℤ, pos}
+use lib.ListN.{getD}
+use Rattle.number.specs.Over.{listed}
+use Rattle.opening.specs.Openings.{noRaw, noCosts}
 use Rattle.curve.specs.declared.RawStep.{RawStep}
 use Rattle.curve.specs.declared.RawCurve.{RawCurve}
 use Rattle.cost.specs.declared.Point.{Point}
@@ -9,6 +12,7 @@ use Rattle.cost.specs.declared.Costs.{Costs}
 use Rattle.resource.specs.declared.Source.the-variants as source
 use Rattle.resource.specs.declared.Resource.{Resource}
 use Rattle.parts.specs.Parts.{bidOf}
+use Rattle.resource_part.specs.declared.Owners.{Owners}
 
 -- a bid with its steps alone
 abbrev pub withSteps : ℕ → List RawStep → RawCurve
@@ -47,3 +51,8 @@ joined portfolio start bid points prices = record {
   };
   pack = bidOf (pos 0) [];
 }
+
+-- the first 64 resources
+unfoldable pub listFrom : Owners → List RawCurve → List Costs → List Costs → List Resource
+listFrom os bids points prices =
+    listed (λ k. joined (getD (os .portfolio) k (pos 0)) (getD (os .start) k (pos 0)) (getD bids k noRaw) (getD points k noCosts) (getD prices k noCosts)) 64

@@ -5,14 +5,59 @@ use cost::Point;
 use curve::Curve;
 use curve::RawCurve;
 use curve::RawStep;
+use engine::Hour;
 use resource::Resource;
 use resource::Source;
+use text::lines::id_row_at;
 ghost use mathlib.Core.Path.{_≡_};
-ghost use mathlib.Core.List.{[]};
+ghost use mathlib.Core.List.{[], map};
+ghost use lib.ListN.{length, drop};
 ghost use lib.IntN.{pos};
 ghost use Rattle.number.specs.Order.{eqZ};
+ghost use Rattle.text.specs.Numbers.{lines};
+ghost use Rattle.text.specs.Tables.{cell, counting};
+ghost use Rattle.text.specs.Offsets.{kept};
 ghost use Rattle.parts.specs.Parts.{bidOf, costsOf, resourceOf};
-ghost use Rattle.resource_part.specs.Joined.{withSteps, withPoints, joined};
+ghost use Rattle.resource_part.specs.Joined.{withSteps, withPoints, joined, listFrom};
+
+// The resource table: how many lines it has, the portfolios and starts of the first 64, and the offset of the line after it.
+pub struct Owners {
+    pub count: usize,
+    pub portfolio: [i64; Hour::MAX_RESOURCES],
+    pub start: [i64; Hour::MAX_RESOURCES],
+    pub next: usize,
+}
+
+// The resource table's lines of values at an offset.
+pub fn owners_at(s: &[u8], at: usize) -> Owners
+    ensures { λ r. ⌜ r .count ≡ length (counting 3 (lines (drop at (now (s .entry))))) ⌝ }
+    ensures { λ r. ⌜ r .portfolio ≡ kept 64 (pos 0) (map (cell 1) (counting 3 (lines (drop at (now (s .entry)))))) ⌝ }
+    ensures { λ r. ⌜ r .start ≡ kept 64 (pos 0) (map (cell 2) (counting 3 (lines (drop at (now (s .entry)))))) ⌝ }
+    ensures { λ r. ⌜ lines (drop (r .next) (now (s .entry))) ≡ drop (r .count) (lines (drop at (now (s .entry)))) ⌝ }
+{
+    let mut portfolio = [0i64; Hour::MAX_RESOURCES];
+    let mut start = [0i64; Hour::MAX_RESOURCES];
+    let mut count = 0;
+    let mut next = at;
+    loop {
+        let row = id_row_at(s, next, 3, count);
+        let v = row.v;
+        if !row.ok {
+            return Owners {
+                count,
+                portfolio,
+                start,
+                next,
+            };
+        }
+        if count < Hour::MAX_RESOURCES {
+            portfolio[count] = v[1];
+            start[count] = v[2];
+        }
+        count += 1;
+        next = row.next;
+    }
+}
 
 // Whether a value is the id of resource r.
 pub fn is_of(r: usize, x: i64) -> bool
@@ -121,4 +166,30 @@ pub fn no_resource() -> Resource
     ensures { λ x. ⌜ x ≡ resourceOf [] [] [] [] ⌝ }
 {
     resource_of(0, 0, no_bid(), no_costs(), no_costs())
+}
+
+// The first 64 resources.
+pub fn list_of(
+    owners: Owners,
+    bids: [RawCurve; Hour::MAX_RESOURCES],
+    points: [Costs; Hour::MAX_RESOURCES],
+    prices: [Costs; Hour::MAX_RESOURCES],
+) -> [Resource; Hour::MAX_RESOURCES]
+    ensures { λ l. ⌜ l ≡ listFrom owners bids points prices ⌝ }
+{
+    let portfolio = owners.portfolio;
+    let start = owners.start;
+    let mut list = [no_resource(); Hour::MAX_RESOURCES];
+    let mut k: usize = 0;
+    while k < Hour::MAX_RESOURCES {
+        let bid = bids[k];
+        let heat = points[k];
+        let price = prices[k];
+        let owner = portfolio[k];
+        let from = start[k];
+        let resource = resource_of(owner, from, bid, heat, price);
+        list[k] = resource;
+        k += 1;
+    }
+    list
 }

@@ -1,4 +1,4 @@
--- `opening_part::tables::owners_at` meets its contract. Assumes nothing.
+-- `resource_part::owners_at` meets its contract. Assumes nothing.
 use Prim.Native.Nat.{ℕ, suc, _+_, _≤_}
 use native.Mathlib.Omega.{arith}
 use native.Mathlib.Numerals.{add-one}
@@ -17,8 +17,8 @@ use Rattle.text.specs.Offsets.{kept, asRow}
 use Rattle.text.proofs.LineLaws.{line, lines-few}
 use Rattle.text.proofs.RowLaws.{row-in, Held, held, not-held}
 use Rattle.text.proofs.TableLaws.{Loop, room, ends, Turned, turns, kept-length}
-use Rattle.opening_part.proofs.tables.owners_at.Statement.{statement}
-use Rattle.opening_part.proofs.tables.owners_at.Tie as tie
+use Rattle.resource_part.proofs.owners_at.Statement.{statement}
+use Rattle.resource_part.proofs.owners_at.Tie as tie
 
 abbrev up : ℕ → Row → ℕ
 up i x = suc i

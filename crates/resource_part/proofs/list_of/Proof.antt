@@ -1,4 +1,4 @@
--- `opening_part::list_of` meets its contract. Assumes nothing.
+-- `resource_part::list_of` meets its contract. Assumes nothing.
 use Prim.Native.Nat.{ℕ, _-_, _≤_}
 use native.Mathlib.Omega.{arith}
 use native.Mathlib.Numerals.{add-one}
@@ -18,10 +18,10 @@ use Rattle.cost.specs.declared.Costs.{Costs}
 use Rattle.opening.specs.Openings.{noRaw, noCosts}
 use Rattle.resource.specs.declared.Resource.{Resource}
 use Rattle.parts.specs.Parts.{resourceOf}
 use Rattle.resource_part.specs.Joined.{joined}
-use Rattle.opening_part.specs.Shown.{listFrom}
-use Rattle.opening_part.proofs.list_of.Statement.{statement}
-use Rattle.opening_part.proofs.list_of.Tie as tie
+use Rattle.resource_part.specs.Joined.{listFrom}
+use Rattle.resource_part.proofs.list_of.Statement.{statement}
+use Rattle.resource_part.proofs.list_of.Tie as tie
 
 abbrev none : Resource
 none = resourceOf [] [] [] []
