@@ -7,11 +7,8 @@ use lib.ListN.{length, getD}
 use lib.IntN.{ℤ, pos}
 use Rattle.number.proofs.ListedLaws.{listed-is}
 use Rattle.curve.specs.declared.RawCurve.{RawCurve}
-use Rattle.cost.specs.declared.Point.{Point}
 use Rattle.cost.specs.declared.Costs.{Costs}
 use Rattle.opening.specs.Openings.{noRaw, noCosts}
-use Rattle.resource.specs.declared.Source.the-variants as source
-use Rattle.resource.specs.declared.Resource.{Resource}
 use Rattle.text.specs.Numbers.{Row}
 use Rattle.text.specs.Tables.{cell}
 use Rattle.text.specs.Offsets.{kept}

@@ -1,16 +1,10 @@
 -- What the code's answers stand for.
 use Prim.Native.Nat.{ℕ, zero, suc}
 use mathlib.Core.List.{List, [], map}
-use lib.ListN.{getD, replicate}
+use lib.ListN.{replicate}
 use lib.IntN.{ℤ, pos}
-use Rattle.number.specs.Over.{listed}
-use Rattle.curve.specs.declared.RawStep.{RawStep}
 use Rattle.curve.specs.declared.RawCurve.{RawCurve}
-use Rattle.cost.specs.declared.Point.{Point}
 use Rattle.cost.specs.declared.Costs.{Costs}
-use Rattle.resource.specs.declared.Source.the-variants as source
-use Rattle.resource.specs.declared.Resource.{Resource}
-use Rattle.opening.specs.Openings.{noRaw, noCosts}
 use Rattle.opening.specs.declared.Opening.{Opening}
 use Rattle.text.specs.Tables.{Reading, Reader, found, next, _▷_, headed, grouped, pairs, each}
 use Rattle.text.specs.Offsets.{kept}
