@@ -62,9 +62,9 @@ upTo-same {A} f g k (suc n) (x ∷ l) h = ap₂ (λ (y : A) (t : List A). y ∷ 
 
 -- the rows that the code cuts are those of the next hour
 pub rows-cut : (m : Market) (v : Interval) (verdicts : List Verdict) (n : ℕ) (rows : List Row) → verdicts ≡ verdictsOf m v
-    → cutRows v (weightsOf (v .shadow) verdicts (v .constraints)) n rows ≡ upTo (λ r x. cutRow (cutOf m v r) x) 0 n rows
+    → cutRows (v .lmp) (v .dispatch) (v .factors) (v .parameter) (weightsOf (v .shadow) verdicts (v .constraints)) (v .constraints) n rows ≡ upTo (λ r x. cutRow (cutOf m v r) x) 0 n rows
 unfolding cutRows cutOf
 rows-cut m v verdicts n rows e =
-    ap (λ (l : List Verdict). upTo (λ r x. cutRow (cutAt v (weightsOf (v .shadow) l (v .constraints)) rows n r) x) 0 n rows) e
-    ∙ upTo-same (λ r x. cutRow (cutAt v (weightsOf (v .shadow) (verdictsOf m v) (v .constraints)) rows n r) x) (λ r x. cutRow (cutOf m v r) x) 0 n rows
+    ap (λ (l : List Verdict). upTo (λ r x. cutRow (cutAt (v .lmp) (v .dispatch) (v .factors) (v .parameter) (weightsOf (v .shadow) l (v .constraints)) (v .constraints) rows n r) x) 0 n rows) e
+    ∙ upTo-same (λ r x. cutRow (cutAt (v .lmp) (v .dispatch) (v .factors) (v .parameter) (weightsOf (v .shadow) (verdictsOf m v) (v .constraints)) (v .constraints) rows n r) x) (λ r x. cutRow (cutOf m v r) x) 0 n rows
     (λ r x. ap (λ (z : ℤ). cutRow (cutBy (dispatchAt v r) (lmpAt v r) z (v .parameter)) x) (weighed-is m v r))

@@ -16,7 +16,7 @@ use Rattle.interval.proofs.IntervalLaws.{InLimits}
 use Rattle.path.specs.declared.Verdict.{Verdict}
 use Rattle.path.specs.declared.Finding.{Finding}
 use Rattle.path.specs.declared.Finding.the-variants.{Competitive, NonCompetitive, NotBinding}
-use Rattle.engine.specs.Weights.{weight, noVerdict, weightsOf, weighed, Weighable}
+use Rattle.engine.specs.Weights.{weight, noVerdict, weightsOf, weighed, Weighable, Cuttable}
 use Rattle.engine.proofs.WeightLaws.{sumZ-size}
 
 -- past what it holds, an array is padded with what a read past its end gives
@@ -36,36 +36,40 @@ weight-size Competitive x h = omega arith
 weight-size NonCompetitive x h = h
 weight-size NotBinding x h = omega arith
 
-module _ (n : ℕ) (v : Interval) (limits : InLimits n v) (verdicts : List Verdict) where
+module _ (m : ℕ) (shadow : List ℤ) (n : ℕ) (lmp factors : List ℤ) (parameter : ℤ) (limits : Cuttable m shadow n lmp factors parameter) (verdicts : List Verdict) where
   weighs : ℕ → ℤ
-  weighs c = weight (getD verdicts c noVerdict .finding) (cell (v .shadow) c)
+  weighs c = weight (getD verdicts c noVerdict .finding) (cell shadow c)
 
-  held : (c : ℕ) → c < v .constraints → cell (weightsOf (v .shadow) verdicts (v .constraints)) c ≡ weighs c
+  held : (c : ℕ) → c < m → cell (weightsOf shadow verdicts m) c ≡ weighs c
   unfolding weightsOf weighs
   held c l =
-      padded-at 32 (pos 0) (listed weighs (v .constraints)) c (pos 0) (omega (arith, listed-length weighs (v .constraints)))
-      ∙ listed-at weighs (pos 0) (v .constraints) c l
+      padded-at 32 (pos 0) (listed weighs m) c (pos 0) (omega (arith, listed-length weighs m))
+      ∙ listed-at weighs (pos 0) m c l
 
-  past : (c : ℕ) → v .constraints ≤ c → cell (weightsOf (v .shadow) verdicts (v .constraints)) c ≡ pos 0
+  past : (c : ℕ) → m ≤ c → cell (weightsOf shadow verdicts m) c ≡ pos 0
   unfolding weightsOf weighs
-  past c l = padded-past 32 (pos 0) (listed weighs (v .constraints)) c (omega (arith, listed-length weighs (v .constraints)))
+  past c l = padded-past 32 (pos 0) (listed weighs m) c (omega (arith, listed-length weighs m))
 
-  weights-size : (c : ℕ) → natAbs (cell (weightsOf (v .shadow) verdicts (v .constraints)) c) ≤ 100000000
+  weights-size : (c : ℕ) → natAbs (cell (weightsOf shadow verdicts m) c) ≤ 100000000
   unfolding weighs
-  weights-size c = ⊎-elim (λ l. rw (past c l) (omega arith)) (λ l. rw (held c l) (weight-size (getD verdicts c noVerdict .finding) (cell (v .shadow) c) (abs-in 100000000 (cell (v .shadow) c) (limits .shadow c l)))) (le-or-lt (v .constraints) c)
+  weights-size c = ⊎-elim (λ l. rw (past c l) (omega arith)) (λ l. rw (held c l) (weight-size (getD verdicts c noVerdict .finding) (cell shadow c) (abs-in 100000000 (cell shadow c) (limits .shadow-in c l)))) (le-or-lt m c)
 
-  weights-length : length (weightsOf (v .shadow) verdicts (v .constraints)) ≡ 32
+  weights-length : length (weightsOf shadow verdicts m) ≡ 32
   unfolding weightsOf weighs
-  weights-length = padded-length 32 (pos 0) (listed weighs (v .constraints)) (omega (arith, listed-length weighs (v .constraints), limits .constraints))
+  weights-length = padded-length 32 (pos 0) (listed weighs m) (omega (arith, listed-length weighs m, limits .constraints))
 
-  pub weighable : length (v .factors) ≡ 2048 → (r : ℕ) → r < v .resources → Weighable (v .factors) (weightsOf (v .shadow) verdicts (v .constraints)) r (v .constraints)
+  pub weighable : length factors ≡ 2048 → (r : ℕ) → r < n → Weighable factors (weightsOf shadow verdicts m) r m
   weighable e r h = record {
     row = omega (arith, limits .few);
     few = limits .constraints;
     rooms = (e, weights-length);
-    factor = λ c l. abs-range 1000000 (cell (v .factors) (r * 32 + c)) (limits .factor r c h l);
+    factor = λ c l. abs-range 1000000 (cell factors (r * 32 + c)) (limits .factor-in r c h l);
     weighs = weights-size;
   }
+
+-- what the limits of an interval leave
+pub cuttable : (k : ℕ) (v : Interval) → InLimits k v → Cuttable (v .constraints) (v .shadow) (v .resources) (v .lmp) (v .factors) (v .parameter)
+cuttable k v i = record { constraints = i .constraints; few = i .few; shadow-in = i .shadow; lmp-in = i .lmp; factor-in = i .factor; parameter-in = i .parameter }
 
 -- a component fits with room to spare
 pub weighed-size : (factors weights : List ℤ) (r m : ℕ) → Weighable factors weights r m → natAbs (weighed factors weights r m) ≤ 3200000000000000

@@ -9,20 +9,19 @@ use lib.ListN.{length, getD, set}
 use Rattle.number.specs.Over.{upTo}
 use Rattle.number.proofs.OverLaws.{upTo-at, upTo-step}
 use Rattle.mitigation.specs.declared.FloorPrice.{FloorPrice}
-use Rattle.interval.specs.Intervals.{dispatchAt, lmpAt}
-use Rattle.interval.specs.declared.Interval.{Interval}
+use Rattle.interval.specs.Intervals.{cell}
 use Rattle.engine.specs.Cuts.{cutBy}
 use Rattle.engine.specs.Hours.{noRow, cutRow}
 use Rattle.engine.specs.Weights.{weighed, cutRows}
 use Rattle.resource.specs.declared.Row.{Row}
 
-module _ (v : Interval) (w : List ℤ) (rows : List Row) (r : ℕ) where
+module _ (lmp dispatch factors : List ℤ) (parameter : ℤ) (w : List ℤ) (m : ℕ) (rows : List Row) (r : ℕ) where
   -- the cut of row r
   abbrev pub cutAt : ℕ → FloorPrice
-  cutAt r = cutBy (dispatchAt v r) (lmpAt v r) (weighed (v .factors) w r (v .constraints)) (v .parameter)
+  cutAt r = cutBy (cell dispatch r) (cell lmp r) (weighed factors w r m) parameter
 
-  pub cut-turn : (next : List Row) (k : FloorPrice) (x : Row) → r < length rows → next ≡ cutRows v w r rows → k ≡ cutAt r → x ≡ cutRow k (getD next r noRow)
-      → set next r x ≡ cutRows v w (r + 1) rows
+  pub cut-turn : (next : List Row) (k : FloorPrice) (x : Row) → r < length rows → next ≡ cutRows lmp dispatch factors parameter w m r rows → k ≡ cutAt r → x ≡ cutRow k (getD next r noRow)
+      → set next r x ≡ cutRows lmp dispatch factors parameter w m (r + 1) rows
   unfolding cutRows
   cut-turn next k x h e f g =
       let step : ℕ → Row → Row = λ i y. cutRow (cutAt i) y in

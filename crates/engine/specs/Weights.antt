@@ -1,12 +1,13 @@
 -- The component as the code adds it up: over all constraints, where one that doesn't enter weighs 0. proofs/WeightLaws.antt shows that it is C.
 use mathlib.Core.List.{List, []}
+use mathlib.Core.Bool.{true}
 use mathlib.Core.Path.{_≡_}
 use Prim.Native.Nat.{ℕ, zero, suc, _+_, _*_, _≤_, _<_}
 use lib.IntN.{ℤ, pos, negℤ, natAbs, _+ℤ_, _*ℤ_}
 use lib.ListN.{getD, length}
+use Rattle.number.specs.Order.{inRange}
 use Rattle.number.specs.Over.{listed, padded, upTo}
-use Rattle.interval.specs.Intervals.{cell, dispatchAt, lmpAt}
-use Rattle.interval.specs.declared.Interval.{Interval}
+use Rattle.interval.specs.Intervals.{cell}
 use Rattle.engine.specs.Cuts.{cutBy}
 use Rattle.engine.specs.Hours.{cutRow}
 use Rattle.resource.specs.declared.Row.{Row}
@@ -45,7 +46,15 @@ pub record Weighable (factors weights : List ℤ) (r m : ℕ) : Type 0 where
   pub factor : (c : ℕ) → c < m → natAbs (cell factors (r * 32 + c)) ≤ 1000000
   pub weighs : (c : ℕ) → natAbs (cell weights c) ≤ 100000000
 
+-- what they have left out of the values that a cut takes: m constraints, n resources, and ranges
+pub record Cuttable (m : ℕ) (shadow : List ℤ) (n : ℕ) (lmp factors : List ℤ) (parameter : ℤ) : Type 0 where
+  pub constraints : m ≤ 32
+  pub few : n ≤ 64
+  pub shadow-in : (c : ℕ) → c < m → inRange (pos 0) (pos 100000000) (cell shadow c) ≡ true
+  pub lmp-in : (r : ℕ) → r < n → inRange (negℤ (pos 100000000)) (pos 100000000) (cell lmp r) ≡ true
+  pub factor-in : (r c : ℕ) → r < n → c < m → inRange (negℤ (pos 1000000)) (pos 1000000) (cell factors (r * 32 + c)) ≡ true
+  pub parameter-in : inRange (pos 0) (pos 100) parameter ≡ true
+
 -- the first n rows, each after its cut
-unfoldable pub cutRows : Interval → List ℤ → ℕ → List Row → List Row
-cutRows v weights n rows =
-    upTo (λ r x. cutRow (cutBy (dispatchAt v r) (lmpAt v r) (weighed (v .factors) weights r (v .constraints)) (v .parameter)) x) 0 n rows
+unfoldable pub cutRows : List ℤ → List ℤ → List ℤ → ℤ → List ℤ → ℕ → ℕ → List Row → List Row
+cutRows lmp dispatch factors parameter weights m n rows = upTo (λ r x. cutRow (cutBy (cell dispatch r) (cell lmp r) (weighed factors weights r m) parameter) x) 0 n rows

@@ -5,10 +5,9 @@ ghost use Prim.Native.Nat.{_≤_};
 ghost use lib.IntN.{natAbs};
 ghost use lib.ListN.{length};
 ghost use Rattle.curve.specs.Refusals.{outcomeNumber};
-ghost use Rattle.interval.specs.Intervals.{intervalRefusal};
 ghost use Rattle.engine.specs.Cuts.{cutBy};
 ghost use Rattle.engine.specs.Weights as Weights;
-ghost use Rattle.engine.specs.Weights.{weightsOf, weighed, Weighable, cutRows};
+ghost use Rattle.engine.specs.Weights.{weightsOf, weighed, Weighable, Cuttable, cutRows};
 ghost use Rattle.opening.specs.Openings.{openingRefusal};
 ghost use Rattle.engine.specs.Openings.{openedHour};
 ghost use Rattle.engine.specs.Hours.{blankHour, cutRow, rowCurve, curveIn, hourRefusal, hourAfter, hourVerdicts};
@@ -196,7 +195,18 @@ impl Hour {
             };
         }
         let market = self.market;
-        let judged = market.judged(v);
+        let parameter = v.parameter;
+        let judged = market.judged(
+            v.constraints,
+            &v.shadow,
+            v.resources,
+            &v.lmp,
+            &v.dispatch,
+            &v.available,
+            &v.floor,
+            &v.factors,
+            parameter,
+        );
         let outcome = judged.outcome;
         let verdicts = judged.verdicts;
         let Outcome::Accepted = outcome else {
@@ -212,34 +222,45 @@ impl Hour {
             hour: Hour {
                 accepted: accepted + 1,
                 market: market,
-                rows: cut_rows(rows, v, verdicts),
+                rows: cut_rows(
+                    rows,
+                    verdicts,
+                    v.constraints,
+                    &v.shadow,
+                    v.resources,
+                    &v.lmp,
+                    &v.dispatch,
+                    &v.factors,
+                    parameter,
+                ),
             },
             verdicts: verdicts,
         }
     }
 }
 
-// The rows of an hour after an interval that it accepts.
-fn cut_rows(
+// The rows of an hour after an interval of these values that it accepts.
+fn cut_rows<'a>(
     rows: [Row; Hour::MAX_RESOURCES],
-    v: Interval,
     verdicts: [Verdict; Interval::MAX_CONSTRAINTS],
+    constraints: usize,
+    shadow: &'a [i64; Interval::MAX_CONSTRAINTS],
+    resources: usize,
+    lmp: &'a [i64; Interval::MAX_RESOURCES],
+    dispatch: &'a [i64; Interval::MAX_RESOURCES],
+    factors: &'a [i64; Interval::MAX_FACTORS],
+    parameter: i64,
 ) -> [Row; Hour::MAX_RESOURCES]
-    requires { ⌜ intervalRefusal (v .resources) v ≡ 0 ⌝ }
-    ensures { λ r. ⌜ r ≡ cutRows v (weightsOf (v .shadow) verdicts (v .constraints)) (v .resources) rows ⌝ }
+    requires { ⌜ Cuttable constraints (now shadow) resources (now lmp) (now factors) parameter ⌝ }
+    ensures { λ r. ⌜ r ≡ cutRows (now (lmp .entry)) (now (dispatch .entry)) (now (factors .entry)) parameter (weightsOf (now (shadow .entry)) verdicts constraints) constraints resources rows ⌝ }
 {
-    let n = v.resources;
-    let m = v.constraints;
-    let parameter = v.parameter;
-    let weights = weights_of(&v.shadow, verdicts, m);
+    let weights = weights_of(shadow, verdicts, constraints);
     let mut next = rows;
     let mut r: usize = 0;
-    while r < n {
+    while r < resources {
         let row = next[r];
-        let component = component_of(&v.factors, &weights, r, m);
-        let dispatch = v.dispatch[r];
-        let lmp = v.lmp[r];
-        next[r] = cut_row(row, cut_by(dispatch, lmp, component, parameter));
+        let component = component_of(factors, &weights, r, constraints);
+        next[r] = cut_row(row, cut_by(dispatch[r], lmp[r], component, parameter));
         r += 1;
     }
     next

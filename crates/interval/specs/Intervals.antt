@@ -10,6 +10,20 @@ use Rattle.number.specs.Over.{allTo}
 use Rattle.curve.specs.Refusals.{unless, _then_}
 use Rattle.interval.specs.declared.Interval.{Interval}
 
+-- the interval of these values
+abbrev pub intervalOf : ℕ → List ℤ → ℕ → List ℤ → List ℤ → List ℤ → List ℤ → List ℤ → ℤ → Interval
+intervalOf constraints shadow resources lmp dispatch available floor factors parameter = record {
+  constraints = constraints;
+  shadow = shadow;
+  resources = resources;
+  lmp = lmp;
+  dispatch = dispatch;
+  available = available;
+  floor = floor;
+  factors = factors;
+  parameter = parameter;
+}
+
 -- cell i of an array
 abbrev pub cell : List ℤ → ℕ → ℤ
 cell l i = getD l i (pos 0)

@@ -3,7 +3,7 @@ ghost use mathlib.Core.Path.{_≡_};
 ghost use Prim.Native.Nat.{_≤_};
 ghost use lib.ListN.{length};
 ghost use Rattle.curve.specs.Refusals.{outcomeNumber};
-ghost use Rattle.interval.specs.Intervals.{allWithin, factorsGood, rangesGood, outputGood, outputsGood, intervalRefusal};
+ghost use Rattle.interval.specs.Intervals.{allWithin, factorsGood, rangesGood, outputGood, outputsGood, intervalOf, intervalRefusal};
 use curve::Curve;
 use curve::Outcome;
 use curve::Refusal;
@@ -125,26 +125,34 @@ impl Interval {
 
     pub const MAX_FACTOR: i64 = 1_000_000;
 
-    // The lowest of 13 to 16 that applies in an hour of so many resources, or none.
-    pub fn checked(self, resources: usize) -> Outcome
-        ensures { λ r. ⌜ outcomeNumber r ≡ intervalRefusal resources self ⌝ }
+    // The lowest of 13 to 16 that applies to an interval of these values in an hour of `known` resources, or none. The arrays are lent, since they are large.
+    pub fn checked<'a>(
+        known: usize,
+        constraints: usize,
+        shadow: &'a [i64; Interval::MAX_CONSTRAINTS],
+        resources: usize,
+        lmp: &'a [i64; Interval::MAX_RESOURCES],
+        dispatch: &'a [i64; Interval::MAX_RESOURCES],
+        available: &'a [i64; Interval::MAX_RESOURCES],
+        floor: &'a [i64; Interval::MAX_RESOURCES],
+        factors: &'a [i64; Interval::MAX_FACTORS],
+        parameter: i64,
+    ) -> Outcome
+        ensures { λ r. ⌜ outcomeNumber r ≡ intervalRefusal known (intervalOf constraints (now (shadow .entry)) resources (now (lmp .entry)) (now (dispatch .entry)) (now (available .entry)) (now (floor .entry)) (now (factors .entry)) parameter) ⌝ }
     {
-        let n = self.resources;
-        if n != resources {
+        if resources != known {
             return Outcome::Refused(Refusal::ResourceCount);
         }
-        if Interval::MAX_RESOURCES < n {
+        if Interval::MAX_RESOURCES < resources {
             return Outcome::Refused(Refusal::ResourceCount);
         }
-        let m = self.constraints;
-        let parameter = self.parameter;
-        if Interval::MAX_CONSTRAINTS < m {
+        if Interval::MAX_CONSTRAINTS < constraints {
             return Outcome::Refused(Refusal::ConstraintCount);
         }
-        if !ranges_good(&self.shadow, &self.lmp, parameter, &self.factors, n, m) {
+        if !ranges_good(shadow, lmp, parameter, factors, resources, constraints) {
             return Outcome::Refused(Refusal::IntervalRange);
         }
-        if !outputs_good(&self.available, &self.floor, &self.dispatch, n) {
+        if !outputs_good(available, floor, dispatch, resources) {
             return Outcome::Refused(Refusal::Output);
         }
         Outcome::Accepted

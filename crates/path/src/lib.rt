@@ -6,7 +6,7 @@ use interval::Interval;
 ghost use mathlib.Core.Path.{_≡_};
 ghost use lib.Count.{ones};
 ghost use Rattle.curve.specs.Refusals.{outcomeNumber};
-ghost use Rattle.interval.specs.Intervals.{intervalRefusal};
+ghost use Rattle.interval.specs.Intervals.{intervalOf, intervalRefusal};
 ghost use Rattle.path.specs.Judgements.{judgedVerdicts};
 ghost use Rattle.path.specs.Verdicts.{findingNumber, notBinding, isNamed};
 
@@ -42,41 +42,57 @@ pub struct Judged {
 impl Market {
     pub const MAX_PORTFOLIOS: usize = 16;
 
-    // The verdicts on the constraints of an interval, or the lowest of refusals 13 to 16 that applies.
-    pub fn judged(self, v: Interval) -> Judged
-        ensures number { λ r. ⌜ outcomeNumber (r .outcome) ≡ intervalRefusal (self .resources) v ⌝ }
-        ensures verdicts { λ r. ⌜ r .verdicts ≡ judgedVerdicts self v ⌝ }
+    // The verdicts on the constraints of an interval of these values, or the lowest of refusals 13 to 16 that applies. The arrays are lent, since they are large.
+    pub fn judged<'a>(
+        self,
+        constraints: usize,
+        shadow: &'a [i64; Interval::MAX_CONSTRAINTS],
+        resources: usize,
+        lmp: &'a [i64; Interval::MAX_RESOURCES],
+        dispatch: &'a [i64; Interval::MAX_RESOURCES],
+        available: &'a [i64; Interval::MAX_RESOURCES],
+        floor: &'a [i64; Interval::MAX_RESOURCES],
+        factors: &'a [i64; Interval::MAX_FACTORS],
+        parameter: i64,
+    ) -> Judged
+        ensures number { λ r. ⌜ outcomeNumber (r .outcome) ≡ intervalRefusal (self .resources) (intervalOf constraints (now (shadow .entry)) resources (now (lmp .entry)) (now (dispatch .entry)) (now (available .entry)) (now (floor .entry)) (now (factors .entry)) parameter) ⌝ }
+        ensures verdicts { λ r. ⌜ r .verdicts ≡ judgedVerdicts self (intervalOf constraints (now (shadow .entry)) resources (now (lmp .entry)) (now (dispatch .entry)) (now (available .entry)) (now (floor .entry)) (now (factors .entry)) parameter) ⌝ }
     {
         let mut verdicts = [Verdict::not_binding(); Interval::MAX_CONSTRAINTS];
         let n = self.resources;
-        let outcome = v.checked(n);
+        let portfolio = self.portfolio;
+        let seller = self.seller;
+        let outcome = Interval::checked(
+            n,
+            constraints,
+            shadow,
+            resources,
+            lmp,
+            dispatch,
+            available,
+            floor,
+            factors,
+            parameter,
+        );
         let Outcome::Accepted = outcome else {
-            return Judged {
-                outcome: outcome,
-                verdicts: verdicts,
-            };
+            return Judged { outcome, verdicts };
         };
-        let m = v.constraints;
         let mut c: usize = 0;
-        while c < m {
-            let shadow = v.shadow[c];
+        while c < constraints {
             verdicts[c] = constraint::judge(
-                shadow,
-                &v.factors,
-                &v.dispatch,
-                &v.available,
-                &v.floor,
-                &self.portfolio,
-                &self.seller,
+                shadow[c],
+                factors,
+                dispatch,
+                available,
+                floor,
+                &portfolio,
+                &seller,
                 n,
                 c,
             );
             c += 1;
         }
-        Judged {
-            outcome: outcome,
-            verdicts: verdicts,
-        }
+        Judged { outcome, verdicts }
     }
 }
 

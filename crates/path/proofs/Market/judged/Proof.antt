@@ -9,26 +9,37 @@ use Rattle.number.proofs.OverLaws.{padded-next}
 use Rattle.curve.specs.Refusals.{outcomeNumber}
 use Rattle.curve.proofs.RefusalLaws.{refused-number}
 use Rattle.path.proofs.JudgedLaws.{refused-verdicts}
-use Rattle.interval.specs.Intervals.{intervalRefusal, cell}
+use Rattle.interval.specs.Intervals.{intervalOf, intervalRefusal, cell}
+use Rattle.interval.specs.declared.Interval.{Interval}
 use Rattle.interval.proofs.IntervalLaws.{InLimits, in-limits}
-use Rattle.path.specs.Verdicts.{verdictOf, notBinding}
+use Rattle.path.specs.Verdicts.{pathOf, verdictOf, notBinding}
 use Rattle.path.specs.Judgements.{pathIn, verdictsOf, judgedVerdicts}
 use borrow.Author.Needs.{needs}
 use Rattle.path.proofs.Market.judged.Statement.{statement}
 use Rattle.path.proofs.Market.judged.Tie as tie
 
 abbrev Inv-loop : tie.InvT-loop
-Inv-loop self v verdicts₀ n outcome m c₀ verdicts c = (c ≤ m) × (verdicts ≡ padded 32 notBinding (listed (λ k. verdictOf (pathIn self v k)) c))
+Inv-loop constraints shadow resources lmp dispatch available floor factors parameter verdicts₀ n portfolio seller outcome c₀ verdicts c =
+    (c ≤ constraints) × (verdicts ≡ padded 32 notBinding (listed (λ k. verdictOf (pathOf (cell shadow k) factors dispatch available floor portfolio seller n k)) c))
 
 abbrev μ-loop : tie.MeasureT-loop
-μ-loop self v verdicts₀ n outcome m c₀ verdicts c = m - c
+μ-loop constraints shadow resources lmp dispatch available floor factors parameter verdicts₀ n portfolio seller outcome c₀ verdicts c = constraints - c
+
+-- the interval that is judged
+abbrev lent : tie.Start Inv-loop μ-loop → Interval
+lent s = intervalOf (s .args .constraints) (s .args .shadow .now) (s .args .resources) (s .args .lmp .now) (s .args .dispatch .now) (s .args .available .now) (s .args .floor .now) (s .args .factors .now) (s .args .parameter)
+
+checked-is : (c : tie.After-checked Inv-loop μ-loop) → outcomeNumber (c .checked .result) ≡ intervalRefusal (c .before .before .before .before .args .self .resources) (lent (c .before .before .before .before))
+checked-is c =
+    let s = c .before .before .before .before in
+    simp (came (s .args .parameter) (s .fits .parameter .sfits)) at (c .checked .ensures)
 
 -- none of 13 to 16 applies where the outcome is accepted
-passed : (c : tie.After-enum-told Inv-loop μ-loop) → intervalRefusal (c .before .before .before .before .args .t1 .resources) (c .before .before .before .before .args .t2) ≡ 0
-passed c = sym (c .before .before .checked .ensures) ∙ ap outcomeNumber (c .enum-told .given .1)
+passed : (c : tie.After-enum-told Inv-loop μ-loop) → intervalRefusal (c .before .before .before .before .before .before .args .self .resources) (lent (c .before .before .before .before .before .before)) ≡ 0
+passed c = sym (checked-is (c .before .before)) ∙ ap outcomeNumber (c .enum-told .given .1)
 
-limits : (c : tie.After-enum-told Inv-loop μ-loop) → InLimits (c .before .before .before .before .args .t1 .resources) (c .before .before .before .before .args .t2)
-limits c = in-limits (c .before .before .before .before .args .t1 .resources) (c .before .before .before .before .args .t2) (passed c)
+limits : (c : tie.After-enum-told Inv-loop μ-loop) → InLimits (c .before .before .before .before .before .before .args .self .resources) (lent (c .before .before .before .before .before .before))
+limits c = let s = c .before .before .before .before .before .before in in-limits (s .args .self .resources) (lent s) (passed c)
 
 few : (l : tie.In-loop Inv-loop μ-loop) → l .before .loop .c < 32
 few l = omega (arith, limits (l .before .before) .constraints)
@@ -48,28 +59,28 @@ enum-told-2 c = search needs
 returns : tie.Need-returns Inv-loop μ-loop
 unfolding judgedVerdicts
 returns c =
-    let s = c .before .before .before .before in
+    let d = c .before .before in
+    let s = d .before .before .before .before in
     let k = c .enum-told2 .given in
-    let e : 0 < intervalRefusal (s .args .t1 .resources) (s .args .t2) = rw (← (c .before .before .checked .ensures), k .1) (refused-number (k .0 .0)) in
-    (c .before .before .checked .ensures, rw (c .before .before .before .not-binding .ensures) (sym (refused-verdicts (intervalRefusal (s .args .t1 .resources) (s .args .t2)) (verdictsOf (s .args .t1) (s .args .t2)) e)))
+    let e : 0 < intervalRefusal (s .args .self .resources) (lent s) = rw (← (checked-is d), k .1) (refused-number (k .0 .0)) in
+    (checked-is d, rw (d .before .before .before .not-binding .ensures) (sym (refused-verdicts (intervalRefusal (s .args .self .resources) (lent s)) (verdictsOf (s .args .self) (lent s)) e)))
 
 loop-holds : tie.Need-loop-holds Inv-loop μ-loop
 unfolding padded listed
-loop-holds c = (omega arith, rw (c .before .before .before .not-binding .ensures))
+loop-holds c = (omega arith, rw (c .before .before .before .before .before .not-binding .ensures))
 
-mul-shadow : tie.Need-mul-shadow Inv-loop μ-loop
-mul-shadow c = omega (arith, few c)
+mul-judge : tie.Need-mul-judge Inv-loop μ-loop
+mul-judge c = omega (arith, few c)
 
-element-copy-out-shadow : tie.Need-element-copy-out-shadow Inv-loop μ-loop
-element-copy-out-shadow c = omega (arith, few c)
+element-copy-out-judge : tie.Need-element-copy-out-judge Inv-loop μ-loop
+element-copy-out-judge c = omega (arith, few c)
 
 judge-requires : tie.Need-judge-requires Inv-loop μ-loop
 judge-requires c κs =
-    let l = c .before .before .before .before .before .before .before .before .before in
+    let l = c .before .before .before in
     let i = limits (l .before .before) in
-    let s = l .before .before .before .before .before .before in
-    let n = s .args .t2 .resources in
-    let e : s .args .t1 .resources ≡ n = sym (i .count) in
+    let s = l .before .before .before .before .before .before .before .before in
+    let e : s .args .self .resources ≡ s .args .resources = sym (i .count) in
     rw e (record {
       few = i .few;
       column = few l;
@@ -80,10 +91,10 @@ judge-requires c κs =
     })
 
 mul-verdicts : tie.Need-mul-verdicts Inv-loop μ-loop
-mul-verdicts c = omega (arith, few (c .before .before .before .before .before .before .before .before .before .before))
+mul-verdicts c = omega (arith, few (c .before .before .before .before))
 
 array-set-from-verdicts : tie.Need-array-set-from-verdicts Inv-loop μ-loop
-array-set-from-verdicts c = omega (arith, few (c .before .before .before .before .before .before .before .before .before .before))
+array-set-from-verdicts c = omega (arith, few (c .before .before .before .before))
 
 add-c : tie.Need-add-c Inv-loop μ-loop
 add-c c = search needs
@@ -93,19 +104,20 @@ loop-less c = search needs
 
 loop-again : tie.Need-loop-again Inv-loop μ-loop
 loop-again c =
-    let l = c .before .before .before .before .before .before .before .before .before .before in
+    let j = c .before .before .before in
+    let l = j .before in
     let a = l .before in
-    let s = a .before .before .before .before .before in
-    let f = came (cell (s .args .t2 .shadow) (a .loop .c)) (c .before .before .before .before .before .before .before .before .before .shadow .given) in
-    (omega arith, rw (a .loop .inv .1, simp f at (c .judge .ensures), add-one) (padded-next 32 notBinding (λ k. verdictOf (pathIn (s .args .t1) (s .args .t2) k)) (a .loop .c) (few l)))
+    let s = a .before .before .before .before .before .before .before in
+    let f = came (cell (s .args .shadow .now) (a .loop .c)) (j .judge-arg .given) in
+    (omega arith, rw (a .loop .inv .1, simp f at (c .judge .ensures), add-one) (padded-next 32 notBinding (λ k. verdictOf (pathIn (s .args .self) (lent s) k)) (a .loop .c) (few l)))
 
 returns-2 : tie.Need-returns-2 Inv-loop μ-loop
 unfolding judgedVerdicts verdictsOf
 returns-2 c =
     let a = c .before in
-    let s = a .before .before .before .before .before in
-    let n : a .loop .c ≡ s .args .t2 .constraints = omega arith in
-    (a .before .before .before .checked .ensures, a .loop .inv .1 ∙ rw (passed (a .before), n))
+    let s = a .before .before .before .before .before .before .before in
+    let n : a .loop .c ≡ s .args .constraints = omega arith in
+    (checked-is (a .before .before .before), a .loop .inv .1 ∙ rw (passed (a .before), n))
 
 pub judged-spec : {M : Type 1} → statement M
 judged-spec =
@@ -119,8 +131,8 @@ judged-spec =
     enum-told-2
     returns
     loop-holds
-    mul-shadow
-    element-copy-out-shadow
+    mul-judge
+    element-copy-out-judge
     judge-requires
     mul-verdicts
     array-set-from-verdicts
