@@ -11,6 +11,7 @@ use Rattle.number.specs.Over.{allTo, listed, padded}
 use Rattle.curve.specs.Refusals.{unless, _then_, eachTo}
 use Rattle.curve.specs.declared.RawCurve.{RawCurve}
 use Rattle.cost.specs.declared.Costs.{Costs}
+use Rattle.interval.specs.Intervals.{cell}
 use Rattle.path.specs.declared.Market.{Market}
 use Rattle.resource.specs.Resources.{blankRow, resourceRefusal, rowOf}
 use Rattle.resource.specs.declared.Row.{Row}
@@ -36,17 +37,34 @@ resourceAt o r = getD (o .list) r noResource
 abbrev pub sellerAt : Opening → ℕ → ℤ
 sellerAt o p = getD (o .sellers) p (pos 0)
 
+-- the portfolios of the first n of a list of resources, and 0 past them
+unfoldable pub ownersIn : List Resource → ℕ → List ℤ
+ownersIn list n = padded 64 (pos 0) (listed (λ r. getD list r noResource .portfolio) n)
+
+-- the first n of an array of numbers as whole numbers, in an array of `room` cells, and 0 past them
+unfoldable pub wholes : ℕ → List ℤ → ℕ → List ℕ
+wholes room numbers n = padded room 0 (listed (λ k. natOf (cell numbers k)) n)
+
 -- ---- the checks
 -- 9: month, portfolio and resource count
+abbrev pub countsWithin : ℤ → ℕ → ℕ → Bool
+countsWithin month portfolios resources = inRange (pos 1) (pos 1200) month && (leb 1 portfolios && leb portfolios 16 && (leb 1 resources && leb resources 64))
+
 abbrev pub countsGood : Opening → Bool
-countsGood o = inRange (pos 1) (pos 1200) (o .month) && (leb 1 (o .portfolios) && leb (o .portfolios) 16 && (leb 1 (o .resources) && leb (o .resources) 64))
+countsGood o = countsWithin (o .month) (o .portfolios) (o .resources)
 
 -- 10: each seller is 0 or 1, and each resource's portfolio is known
+abbrev pub isMark : ℤ → Bool
+isMark seller = inRange (pos 0) (pos 1) seller
+
+abbrev pub isKnown : ℕ → ℤ → Bool
+isKnown portfolios owner = leZ (pos 0) owner && ltZ owner (pos portfolios)
+
 unfoldable pub sellersGood : Opening → Bool
-sellersGood o = allTo (λ p. inRange (pos 0) (pos 1) (sellerAt o p)) (o .portfolios)
+sellersGood o = allTo (λ p. isMark (sellerAt o p)) (o .portfolios)
 
 unfoldable pub ownersGood : Opening → Bool
-ownersGood o = allTo (λ r. leZ (pos 0) (resourceAt o r .portfolio) && ltZ (resourceAt o r .portfolio) (pos (o .portfolios))) (o .resources)
+ownersGood o = allTo (λ r. isKnown (o .portfolios) (resourceAt o r .portfolio)) (o .resources)
 
 abbrev pub membersGood : Opening → Bool
 membersGood o = sellersGood o && ownersGood o

@@ -9,10 +9,11 @@ use resource::Row;
 ghost use mathlib.Core.Path.{_≡_};
 ghost use Prim.Native.Nat.{_≤_};
 ghost use Rattle.number.specs.Order.{natOf};
-ghost use Rattle.number.specs.Over.{listed, padded};
+ghost use Rattle.number.specs.Over.{allTo};
 ghost use Rattle.curve.specs.Refusals.{outcomeNumber, eachTo};
+ghost use Rattle.interval.specs.Intervals.{cell};
 ghost use Rattle.resource.specs.Resources.{resourceRefusal};
-ghost use Rattle.opening.specs.Openings.{resourceAt, sellerAt, countsGood, sellersGood, ownersGood, openingRefusal, blankMarket, marketOf, marketUnless, blankRows, rowsOf, rowsUnless};
+ghost use Rattle.opening.specs.Openings.{resourceAt, ownersIn, wholes, countsWithin, isMark, isKnown, openingRefusal, blankMarket, marketOf, marketUnless, blankRows, rowsOf, rowsUnless};
 
 // What an hour is opened from: counts may be more than the room.
 pub struct Opening {
@@ -45,118 +46,115 @@ fn refused(outcome: Outcome) -> Entered
     }
 }
 
+// Whether month, portfolio and resource count are within their limits: else 9.
+fn counts_good(month: i64, portfolios: usize, resources: usize) -> bool
+    ensures { λ r. ⌜ r ≡ countsWithin month portfolios resources ⌝ }
+{
+    if !number::within(month, 1, Opening::MAX_MONTH) {
+        return false;
+    }
+    if portfolios < 1 {
+        return false;
+    }
+    if Market::MAX_PORTFOLIOS < portfolios {
+        return false;
+    }
+    if resources < 1 {
+        return false;
+    }
+    resources <= Interval::MAX_RESOURCES
+}
+
+// Whether each seller is 0 or 1: else 10.
+fn sellers_good(sellers: &[i64; Market::MAX_PORTFOLIOS], portfolios: usize) -> bool
+    requires { ⌜ portfolios ≤ 16 ⌝ }
+    ensures { λ r. ⌜ r ≡ allTo (λ p. isMark (cell (now (sellers .entry)) p)) portfolios ⌝ }
+{
+    let mut p: usize = 0;
+    while p < portfolios {
+        if !number::within(sellers[p], 0, 1) {
+            return false;
+        }
+        p += 1;
+    }
+    true
+}
+
+// 1 for each portfolio that is a net seller, else 0.
+fn marks(
+    sellers: &[i64; Market::MAX_PORTFOLIOS],
+    portfolios: usize,
+) -> [u64; Market::MAX_PORTFOLIOS]
+    requires { ⌜ portfolios ≤ 16 ⌝ }
+    ensures { λ r. ⌜ r ≡ wholes 16 (now (sellers .entry)) portfolios ⌝ }
+{
+    let mut marks = [0u64; Market::MAX_PORTFOLIOS];
+    let mut p: usize = 0;
+    while p < portfolios {
+        marks[p] = number::whole(sellers[p]);
+        p += 1;
+    }
+    marks
+}
+
+// The portfolio of each of the first n resources, and 0 past them.
+fn owners_of(list: [Resource; Interval::MAX_RESOURCES], n: usize) -> [i64; Interval::MAX_RESOURCES]
+    requires { ⌜ n ≤ 64 ⌝ }
+    ensures { λ r. ⌜ r ≡ ownersIn list n ⌝ }
+{
+    let mut owners = [0i64; Interval::MAX_RESOURCES];
+    let mut r: usize = 0;
+    while r < n {
+        let resource = list[r];
+        let portfolio = resource.portfolio;
+        owners[r] = portfolio;
+        r += 1;
+    }
+    owners
+}
+
+// Whether the portfolio of each of n resources is known: else 10.
+fn owners_good(owners: &[i64; Interval::MAX_RESOURCES], n: usize, portfolios: usize) -> bool
+    requires { ⌜ (n ≤ 64) × (portfolios ≤ 16) ⌝ }
+    ensures { λ r. ⌜ r ≡ allTo (λ k. isKnown portfolios (cell (now (owners .entry)) k)) n ⌝ }
+{
+    let known = portfolios as i64;
+    let mut r: usize = 0;
+    while r < n {
+        let portfolio = owners[r];
+        if portfolio < 0 {
+            return false;
+        }
+        if known <= portfolio {
+            return false;
+        }
+        r += 1;
+    }
+    true
+}
+
+// The portfolio of each of n resources, as a market has it.
+fn whole_owners(owners: &[i64; Interval::MAX_RESOURCES], n: usize) -> [u64; Interval::MAX_RESOURCES]
+    requires { ⌜ n ≤ 64 ⌝ }
+    ensures { λ r. ⌜ r ≡ wholes 64 (now (owners .entry)) n ⌝ }
+{
+    let mut portfolio = [0u64; Interval::MAX_RESOURCES];
+    let mut r: usize = 0;
+    while r < n {
+        portfolio[r] = number::whole(owners[r]);
+        r += 1;
+    }
+    portfolio
+}
+
 impl Opening {
     pub const MAX_MONTH: i64 = 1_200;
 
-    // Whether month, portfolio and resource count are within their limits: else 9.
-    fn counts_good(self) -> bool
-        ensures { λ r. ⌜ r ≡ countsGood self ⌝ }
-    {
-        let portfolios = self.portfolios;
-        let resources = self.resources;
-        if !number::within(self.month, 1, Opening::MAX_MONTH) {
-            return false;
-        }
-        if portfolios < 1 {
-            return false;
-        }
-        if Market::MAX_PORTFOLIOS < portfolios {
-            return false;
-        }
-        if resources < 1 {
-            return false;
-        }
-        resources <= Interval::MAX_RESOURCES
-    }
-
-    // Whether each seller is 0 or 1: else 10.
-    fn sellers_good(self) -> bool
-        requires { ⌜ self .portfolios ≤ 16 ⌝ }
-        ensures { λ r. ⌜ r ≡ sellersGood self ⌝ }
-    {
-        let n = self.portfolios;
-        let mut p: usize = 0;
-        while p < n {
-            if !number::within(self.sellers[p], 0, 1) {
-                return false;
-            }
-            p += 1;
-        }
-        true
-    }
-
-    // Whether each resource's portfolio is known: else 10.
-    fn owners_good(self) -> bool
-        requires { ⌜ (self .portfolios ≤ 16) × (self .resources ≤ 64) ⌝ }
-        ensures { λ r. ⌜ r ≡ ownersGood self ⌝ }
-    {
-        let n = self.resources;
-        let known = self.portfolios as i64;
-        let mut r: usize = 0;
-        while r < n {
-            let x = self.list[r];
-            let portfolio = x.portfolio;
-            if portfolio < 0 {
-                return false;
-            }
-            if known <= portfolio {
-                return false;
-            }
-            r += 1;
-        }
-        true
-    }
-
-    // The portfolio of each resource.
-    fn owners(self) -> [u64; Interval::MAX_RESOURCES]
+    // The market and the rows, or the first refusal of a resource in number order.
+    fn filled(self, market: Market) -> Entered
         requires { ⌜ self .resources ≤ 64 ⌝ }
-        ensures { λ r. ⌜ r ≡ padded 64 0 (listed (λ k. natOf (resourceAt self k .portfolio)) (self .resources)) ⌝ }
-    {
-        let n = self.resources;
-        let mut owners = [0u64; Interval::MAX_RESOURCES];
-        let mut r: usize = 0;
-        while r < n {
-            let owned = self.list[r];
-            owners[r] = number::whole(owned.portfolio);
-            r += 1;
-        }
-        owners
-    }
-
-    // 1 for each portfolio that is a net seller, else 0.
-    fn marks(self) -> [u64; Market::MAX_PORTFOLIOS]
-        requires { ⌜ self .portfolios ≤ 16 ⌝ }
-        ensures { λ r. ⌜ r ≡ padded 16 0 (listed (λ p. natOf (sellerAt self p)) (self .portfolios)) ⌝ }
-    {
-        let n = self.portfolios;
-        let mut marks = [0u64; Market::MAX_PORTFOLIOS];
-        let mut p: usize = 0;
-        while p < n {
-            marks[p] = number::whole(self.sellers[p]);
-            p += 1;
-        }
-        marks
-    }
-
-    // Who owns what, and who is a net seller.
-    fn market(self) -> Market
-        requires { ⌜ (self .portfolios ≤ 16) × (self .resources ≤ 64) ⌝ }
-        ensures { λ r. ⌜ r ≡ marketOf self ⌝ }
-    {
-        let portfolio = self.owners();
-        let seller = self.marks();
-        Market {
-            resources: self.resources,
-            portfolio: portfolio,
-            seller: seller,
-        }
-    }
-
-    // Who owns what and the rows, or the first refusal of a resource in number order.
-    fn filled(self) -> Entered
-        requires { ⌜ (self .portfolios ≤ 16) × (self .resources ≤ 64) ⌝ }
         ensures number { λ r. ⌜ outcomeNumber (r .outcome) ≡ eachTo (λ k. resourceRefusal (natOf (self .month)) (resourceAt self k)) (self .resources) ⌝ }
-        ensures market { λ r. ⌜ r .market ≡ marketUnless (eachTo (λ k. resourceRefusal (natOf (self .month)) (resourceAt self k)) (self .resources)) (marketOf self) ⌝ }
+        ensures market { λ r. ⌜ r .market ≡ marketUnless (eachTo (λ k. resourceRefusal (natOf (self .month)) (resourceAt self k)) (self .resources)) market ⌝ }
         ensures rows { λ r. ⌜ r .rows ≡ rowsUnless (eachTo (λ k. resourceRefusal (natOf (self .month)) (resourceAt self k)) (self .resources)) (rowsOf self) ⌝ }
     {
         let n = self.resources;
@@ -174,7 +172,6 @@ impl Opening {
             rows[r] = row;
             r += 1;
         }
-        let market = self.market();
         Entered {
             outcome: Outcome::Accepted,
             market: market,
@@ -182,21 +179,32 @@ impl Opening {
         }
     }
 
-    // Who owns what and a row for each resource, or the first refusal.
+    // Who owns what and a row for each resource, or the first refusal. An opening is large: each check gets only the numbers that it reads.
     pub fn entered(self) -> Entered
         ensures number { λ r. ⌜ outcomeNumber (r .outcome) ≡ openingRefusal self ⌝ }
         ensures market { λ r. ⌜ r .market ≡ marketUnless (openingRefusal self) (marketOf self) ⌝ }
         ensures rows { λ r. ⌜ r .rows ≡ rowsUnless (openingRefusal self) (rowsOf self) ⌝ }
     {
-        if !self.counts_good() {
+        let portfolios = self.portfolios;
+        let resources = self.resources;
+        if !counts_good(self.month, portfolios, resources) {
             return refused(Outcome::Refused(Refusal::Counts));
         }
-        if !self.sellers_good() {
+        let sellers = self.sellers;
+        if !sellers_good(&sellers, portfolios) {
             return refused(Outcome::Refused(Refusal::Membership));
         }
-        if !self.owners_good() {
+        let list = self.list;
+        let owners = owners_of(list, resources);
+        if !owners_good(&owners, resources, portfolios) {
             return refused(Outcome::Refused(Refusal::Membership));
         }
-        self.filled()
+        let portfolio = whole_owners(&owners, resources);
+        let seller = marks(&sellers, portfolios);
+        self.filled(Market {
+            resources: resources,
+            portfolio: portfolio,
+            seller: seller,
+        })
     }
 }

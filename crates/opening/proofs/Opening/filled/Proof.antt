@@ -10,7 +10,7 @@ use Rattle.number.proofs.Kit.{came}
 use Rattle.number.proofs.OverLaws.{padded-next}
 use Rattle.curve.specs.Refusals.{outcomeNumber, eachTo}
 use Rattle.curve.proofs.RefusalLaws.{refused-number}
-use Rattle.opening.specs.Openings.{resourceAt, marketOf, rowsOf}
+use Rattle.opening.specs.Openings.{resourceAt, rowsOf}
 use Rattle.opening.specs.declared.Opening.{Opening}
 use Rattle.resource.specs.declared.Row.{Row}
 use Rattle.opening.proofs.OpeningLaws.{each-next, each-stops, refused-market, refused-rows}
@@ -26,10 +26,10 @@ abbrev row : Opening → ℕ → Row
 row o k = rowOf (resourceAt o k)
 
 abbrev Inv-loop : tie.InvT-loop
-Inv-loop self n month rows₀ r₀ rows r = (r ≤ n) × (eachTo (refusal self) r ≡ 0) × (rows ≡ padded 64 blankRow (listed (row self) r))
+Inv-loop market self n month rows₀ r₀ rows r = (r ≤ n) × (eachTo (refusal self) r ≡ 0) × (rows ≡ padded 64 blankRow (listed (row self) r))
 
 abbrev μ-loop : tie.MeasureT-loop
-μ-loop self n month rows₀ r₀ rows r = n - r
+μ-loop market self n month rows₀ r₀ rows r = n - r
 
 -- the month, as the calls get it
 month-is : (c : tie.After-whole Inv-loop μ-loop) → c .whole .result ≡ natOf (c .before .before .args .t1 .month)
@@ -72,12 +72,13 @@ returns c =
     let b = c .before .before .before in
     let l = b .before .before .before in
     let o = l .before .before .before .before .args .t1 in
+    let m = l .before .before .before .before .args .market in
     let k = c .before .enum-told2 .given in
     let h : 0 < refusal o (l .loop .r) = rw (← (number-is b), k .1) (refused-number (k .0 .0)) in
     let e = each-stops (refusal o) (o .resources) (l .loop .r) (omega arith) (l .loop .inv .1) h in (
       ap outcomeNumber (c .refused .ensures .0) ∙ number-is b ∙ sym e,
       (
-        c .refused .ensures .1 .0 ∙ sym (refused-market (eachTo (refusal o) (o .resources)) (marketOf o) (rw e h)),
+        c .refused .ensures .1 .0 ∙ sym (refused-market (eachTo (refusal o) (o .resources)) m (rw e h)),
         c .refused .ensures .1 .1 ∙ sym (refused-rows (eachTo (refusal o) (o .resources)) (rowsOf o) (rw e h)),
       ),
     )
@@ -103,17 +104,14 @@ loop-again c =
     let e : b .opened .result .row ≡ row o (l .loop .r) = rw (month-is (l .before .before), z) at (b .opened .ensures .1) in
     (omega arith, each-next (refusal o) (l .loop .r) (l .loop .inv .1) z, rw (l .loop .inv .2, e, add-one) (padded-next 64 blankRow (row o) (l .loop .r) (omega arith)))
 
-market-requires : tie.Need-market-requires Inv-loop μ-loop
-market-requires c κs = search needs
-
 returns-2 : tie.Need-returns-2 Inv-loop μ-loop
 returns-2 c =
-    let l = c .before .before in
+    let l = c .before in
     let o = l .before .before .before .before .args .t1 in
     let n : l .loop .r ≡ o .resources = omega arith in
     let e : eachTo (refusal o) (o .resources) ≡ 0 = rw n at (l .loop .inv .1) in
     let k : l .loop .rows ≡ padded 64 blankRow (listed (row o) (o .resources)) = rw n at (l .loop .inv .2) in
-    rw (e, c .market .ensures, k) (refl, (refl, refl))
+    rw (e, k) (refl, (refl, refl))
 
 pub filled-spec : {M : Type 1} → statement M
 filled-spec =
@@ -136,5 +134,4 @@ filled-spec =
     add-r
     loop-less
     loop-again
-    market-requires
     returns-2)

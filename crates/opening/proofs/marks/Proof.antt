@@ -1,30 +1,24 @@
--- `opening::Opening::marks` meets its contract. Assumes nothing.
+-- `opening::marks` meets its contract. Assumes nothing.
 use mathlib.Core.Path.{_≡_, refl}
-use Prim.Native.Nat.{ℕ, _-_, _≤_}
-use native.Mathlib.Numerals.{add-one}
+use Prim.Native.Nat.{_-_, _≤_}
 use native.Mathlib.Omega.{arith}
 use borrow.Author.Needs.{needs}
-use Rattle.number.specs.Order.{natOf}
 use Rattle.number.specs.Over.{listed, padded}
 use Rattle.number.proofs.Kit.{came}
-use Rattle.number.proofs.OverLaws.{padded-next}
-use Rattle.opening.specs.Openings.{sellerAt}
-use Rattle.opening.specs.declared.Opening.{Opening}
-use Rattle.opening.proofs.Opening.marks.Statement.{statement}
-use Rattle.opening.proofs.Opening.marks.Tie as tie
-
--- the mark of portfolio k
-abbrev of : Opening → ℕ → ℕ
-of o k = natOf (sellerAt o k)
+use Rattle.interval.specs.Intervals.{cell}
+use Rattle.opening.specs.Openings.{wholes}
+use Rattle.opening.proofs.OpeningLaws.{wholes-next}
+use Rattle.opening.proofs.marks.Statement.{statement}
+use Rattle.opening.proofs.marks.Tie as tie
 
 abbrev Inv-loop : tie.InvT-loop
-Inv-loop self n marks₀ p₀ marks p = (p ≤ n) × (marks ≡ padded 16 0 (listed (of self) p))
+Inv-loop sellers portfolios marks₀ p₀ marks p = (p ≤ portfolios) × (marks ≡ wholes 16 sellers p)
 
 abbrev μ-loop : tie.MeasureT-loop
-μ-loop self n marks₀ p₀ marks p = n - p
+μ-loop sellers portfolios marks₀ p₀ marks p = portfolios - p
 
 loop-holds : tie.Need-loop-holds Inv-loop μ-loop
-unfolding padded listed
+unfolding wholes padded listed
 loop-holds c = (omega arith, refl)
 
 mul-whole : tie.Need-mul-whole Inv-loop μ-loop
@@ -51,14 +45,14 @@ loop-less c = search needs
 loop-again : tie.Need-loop-again Inv-loop μ-loop
 loop-again c =
     let l = c .before .before .before in
-    let o = l .before .args .t1 in
-    let f = came (sellerAt o (l .loop .p)) (c .before .whole-arg .given) in
-    (omega arith, rw (l .loop .inv .1, simp f at (c .whole .ensures), add-one) (padded-next 16 0 (of o) (l .loop .p) (omega arith)))
+    let a = l .before .args .sellers .now in
+    let f = came (cell a (l .loop .p)) (c .before .whole-arg .given) in
+    (omega arith, rw (l .loop .inv .1) (wholes-next 16 a (l .loop .p) (c .whole .result) (simp f at (c .whole .ensures)) (omega arith)))
 
 returns : tie.Need-returns Inv-loop μ-loop
 returns c =
     let l = c .before in
-    let e : l .before .args .t1 .portfolios ≡ l .loop .p = omega arith in
+    let e : l .before .args .portfolios ≡ l .loop .p = omega arith in
     rw e (l .loop .inv .1)
 
 pub marks-spec : {M : Type 1} → statement M

@@ -1,34 +1,34 @@
--- `opening::Opening::sellers_good` meets its contract. Assumes nothing.
+-- `opening::sellers_good` meets its contract. Assumes nothing.
 use mathlib.Core.Bool.{Bool, true}
+use mathlib.Core.List.{List}
 use mathlib.Core.Path.{_≡_, refl, sym, _∙_}
 use Prim.Native.Nat.{ℕ, _-_, _≤_}
 use native.Mathlib.Omega.{arith}
 use borrow.Author.Needs.{needs}
 use borrow.Author.Tests.{not-true, not-false}
-use lib.IntN.{pos}
-use Rattle.number.specs.Order.{inRange}
+use lib.IntN.{ℤ}
 use Rattle.number.specs.Over.{allTo}
 use Rattle.number.proofs.Kit.{came}
 use Rattle.number.proofs.OverLaws.{all-next, all-fails}
-use Rattle.opening.specs.Openings.{sellerAt, sellersGood}
-use Rattle.opening.specs.declared.Opening.{Opening}
-use Rattle.opening.proofs.Opening.sellers_good.Statement.{statement}
-use Rattle.opening.proofs.Opening.sellers_good.Tie as tie
+use Rattle.interval.specs.Intervals.{cell}
+use Rattle.opening.specs.Openings.{isMark}
+use Rattle.opening.proofs.sellers_good.Statement.{statement}
+use Rattle.opening.proofs.sellers_good.Tie as tie
 
 -- the test of one portfolio
-abbrev good : Opening → ℕ → Bool
-good o p = inRange (pos 0) (pos 1) (sellerAt o p)
+abbrev good : List ℤ → ℕ → Bool
+good sellers p = isMark (cell sellers p)
 
 abbrev Inv-loop : tie.InvT-loop
-Inv-loop self n p₀ p = (p ≤ n) × (allTo (good self) p ≡ true)
+Inv-loop sellers portfolios p₀ p = (p ≤ portfolios) × (allTo (good sellers) p ≡ true)
 
 abbrev μ-loop : tie.MeasureT-loop
-μ-loop self n p₀ p = n - p
+μ-loop sellers portfolios p₀ p = portfolios - p
 
-is : (c : tie.After-within Inv-loop μ-loop) → c .within .result ≡ good (c .before .before .before .before .args .t1) (c .before .before .before .loop .p)
+is : (c : tie.After-within Inv-loop μ-loop) → c .within .result ≡ good (c .before .before .before .before .args .sellers .now) (c .before .before .before .loop .p)
 is c =
     let l = c .before .before .before in
-    simp (came (sellerAt (l .before .args .t1) (l .loop .p)) (c .before .within-arg .given)) at (c .within .ensures)
+    simp (came (cell (l .before .args .sellers .now) (l .loop .p)) (c .before .within-arg .given)) at (c .within .ensures)
 
 loop-holds : tie.Need-loop-holds Inv-loop μ-loop
 unfolding allTo
@@ -44,11 +44,10 @@ within-requires : tie.Need-within-requires Inv-loop μ-loop
 within-requires c κs = search needs
 
 returns : tie.Need-returns Inv-loop μ-loop
-unfolding sellersGood
 returns c =
     let l = c .before .before .before .before in
-    let o = l .before .args .t1 in
-    sym (all-fails (good o) (o .portfolios) (l .loop .p) (omega arith) (sym (is (c .before)) ∙ not-true _ (c .if1 .taken)))
+    let s = l .before .args in
+    sym (all-fails (good (s .sellers .now)) (s .portfolios) (l .loop .p) (omega arith) (sym (is (c .before)) ∙ not-true _ (c .if1 .taken)))
 
 add-p : tie.Need-add-p Inv-loop μ-loop
 add-p c = search needs
@@ -59,13 +58,12 @@ loop-less c = search needs
 loop-again : tie.Need-loop-again Inv-loop μ-loop
 loop-again c =
     let l = c .before .before .before .before in
-    (omega arith, all-next (good (l .before .args .t1)) (l .loop .p) (l .loop .inv .1) (sym (is (c .before)) ∙ not-false _ (c .if1 .left)))
+    (omega arith, all-next (good (l .before .args .sellers .now)) (l .loop .p) (l .loop .inv .1) (sym (is (c .before)) ∙ not-false _ (c .if1 .left)))
 
 returns-2 : tie.Need-returns-2 Inv-loop μ-loop
-unfolding sellersGood
 returns-2 c =
     let l = c .before in
-    let e : l .before .args .t1 .portfolios ≡ l .loop .p = omega arith in
+    let e : l .before .args .portfolios ≡ l .loop .p = omega arith in
     rw e (sym (l .loop .inv .1))
 
 pub sellers-good-spec : {M : Type 1} → statement M
