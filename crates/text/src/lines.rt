@@ -9,12 +9,21 @@ ghost use mathlib.Core.Bool.{false};
 ghost use mathlib.Core.Option.{none};
 ghost use Rattle.number.specs.Order.{eqZ};
 ghost use Rattle.text.specs.Numbers.{closing as Numbers·closing};
-ghost use Rattle.text.specs.Offsets.{namesAt, asRow, rowAt, idRowAt};
+ghost use Rattle.text.specs.Offsets.{namesAt, numberAt, closedBy, asRow, rowAt, threeOf, idRowAt};
 
 // The values of a line, with the offset of the next line, where it is a line of values.
 pub struct Row {
     pub ok: bool,
     pub v: [i64; 8],
+    pub next: usize,
+}
+
+// The three values of a line, with the offset of the next line, where it is a line of three values.
+pub struct Three {
+    pub ok: bool,
+    pub first: i64,
+    pub second: i64,
+    pub third: i64,
     pub next: usize,
 }
 
@@ -61,6 +70,20 @@ pub fn closing(k: usize) -> u8
     if k == 0 { 10 } else { 32 }
 }
 
+// The number at an offset that the byte b closes, with the offset after that byte.
+fn closed_at(s: &[u8], at: usize, b: u8) -> Number
+    requires { ⌜ 0 < b ⌝ }
+    ensures { λ r. ⌜ r ≡ closedBy (now (s .entry)) b (numberAt (now (s .entry)) at) ⌝ }
+{
+    let Number::Is(x, n) = number_at(s, at) else {
+        return Number::Not;
+    };
+    if byte_at(s, n) != b {
+        return Number::Not;
+    }
+    Number::Is(x, n + 1)
+}
+
 fn no_row() -> Row
     ensures { λ r. ⌜ r ≡ asRow 0 none ⌝ }
 {
@@ -85,20 +108,51 @@ pub fn row_at(s: &[u8], at: usize, k: usize) -> Row
     let mut p = at;
     let mut i = 0;
     while i < k {
-        let Number::Is(x, n) = number_at(s, p) else {
+        let Number::Is(x, n) = closed_at(s, p, closing(k - i - 1)) else {
             return no_row();
         };
-        if byte_at(s, n) != closing(k - i - 1) {
-            return no_row();
-        }
         v[i] = x;
-        p = n + 1;
+        p = n;
         i += 1;
     }
     Row {
         ok: true,
         v,
         next: p,
+    }
+}
+
+fn no_three() -> Three
+    ensures { λ r. ⌜ r ≡ threeOf (asRow 0 none) ⌝ }
+{
+    Three {
+        ok: false,
+        first: 0,
+        second: 0,
+        third: 0,
+        next: 0,
+    }
+}
+
+// The three values of the line at an offset, with one space between.
+pub fn three_at(s: &[u8], at: usize) -> Three
+    ensures { λ r. ⌜ r ≡ threeOf (rowAt (now (s .entry)) at 3) ⌝ }
+{
+    let Number::Is(first, p) = closed_at(s, at, 32) else {
+        return no_three();
+    };
+    let Number::Is(second, q) = closed_at(s, p, 32) else {
+        return no_three();
+    };
+    let Number::Is(third, next) = closed_at(s, q, 10) else {
+        return no_three();
+    };
+    Three {
+        ok: true,
+        first,
+        second,
+        third,
+        next,
     }
 }
 
