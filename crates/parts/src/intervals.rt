@@ -6,7 +6,7 @@ use interval::Interval;
 use text::lines::Found;
 use text::lines::id_row_at;
 use text::lines::line_is;
-use text::lines::row_at;
+use text::lines::three_at;
 ghost use mathlib.Core.Path.{_≡_};
 ghost use mathlib.Core.Bool.{cond, _&&_};
 ghost use mathlib.Core.List.{map};
@@ -184,13 +184,12 @@ fn factor_at(s: &[u8], at: usize, n: usize, m: usize, r: usize, c: usize) -> Fac
     requires { ⌜ c ≤ m ⌝ }
     ensures { λ f. ⌜ f ≡ asFactor (at + length (lineAt (now (s .entry)) at)) (ifSuits (isFactor n m (place m r c)) (row 3 (lineAt (now (s .entry)) at))) ⌝ }
 {
-    let row = row_at(s, at, 3);
+    let row = three_at(s, at);
     if !row.ok {
         return no_factor();
     }
-    let v = row.v;
-    let x = v[0];
-    let y = v[1];
+    let x = row.first;
+    let y = row.second;
     if !is_declared(n, x) {
         return no_factor();
     }
@@ -207,7 +206,7 @@ fn factor_at(s: &[u8], at: usize, n: usize, m: usize, r: usize, c: usize) -> Fac
         resource,
         constraint,
         cell: factor_cell(resource, constraint),
-        value: v[2],
+        value: row.third,
         next: row.next,
     }
 }

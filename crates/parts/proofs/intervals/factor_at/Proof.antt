@@ -6,14 +6,14 @@ use borrow.Author.Needs.{needs}
 use borrow.Author.Tests.{not-true, not-false}
 use native.Mathlib.Omega.{arith}
 use lib.Dec.{leb}
-use lib.ListN.{length, getD}
-use lib.IntN.{ℤ, pos}
+use lib.ListN.{length}
+use lib.IntN.{ℤ}
 use Rattle.number.specs.Order.{natOf}
 use Rattle.number.proofs.Kit.{came}
 use Rattle.text.specs.Numbers.{row}
 use Rattle.text.specs.Tables.{cell}
-use Rattle.text.specs.Offsets.{lineAt, asRow}
-use Rattle.text.proofs.RowLaws.{Held, held, not-held}
+use Rattle.text.specs.Offsets.{lineAt, asRow, threeOf}
+use Rattle.text.proofs.RowLaws.{HeldThree, held-three, not-held-three}
 use Rattle.parts.specs.Parts.{isDeclared, place, isFactor, factorCell}
 use Rattle.parts.proofs.FactorLaws.{row-of, no-row, unsuited, suited, factor-undeclared, factor-unconstrained, factor-placed, declared-below}
 use Rattle.parts.specs.declared.intervals.Factor.{Factor}
@@ -27,30 +27,30 @@ end a = a .args .at + length (lineAt (a .args .s .now) (a .args .at))
 abbrev from : tie.Start → ℕ
 from a = place (a .args .m) (a .args .r) (a .args .c)
 
-answers : (c : tie.After-row-at) → c .row-at .result ≡ asRow (end (c .before .before)) (row 3 (lineAt (c .before .before .args .s .now) (c .before .before .args .at)))
-answers c = c .row-at .ensures ∙ row-of (c .before .before .args .s .now) (c .before .before .args .at) 3 refl
+answers : (c : tie.After-three-at) → c .three-at .result ≡ threeOf (asRow (end (c .before .before)) (row 3 (lineAt (c .before .before .args .s .now) (c .before .before .args .at))))
+answers c = c .three-at .ensures ∙ ap threeOf (row-of (c .before .before .args .s .now) (c .before .before .args .at) 3 refl)
 
-abbrev start : tie.After-y → tie.Start
-start y = y .before .before .before .before .before .before .before
+abbrev start : tie.After-struct-told2 → tie.Start
+start y = y .before .before .before .before .before .before
 
-abbrev values : tie.After-y → tie.After-row-at
-values y = y .before .before .before .before .before
+abbrev values : tie.After-struct-told2 → tie.After-three-at
+values y = y .before .before .before .before
 
-there : (y : tie.After-y) → Held (end (start y)) (row 3 (lineAt (start y .args .s .now) (start y .args .at))) (values y .row-at .result)
-there y = held _ _ (values y .row-at .result) (answers (values y)) (not-false (values y .row-at .result .ok) (y .before .before .before .if1 .left))
+there : (y : tie.After-struct-told2) → HeldThree (end (start y)) (row 3 (lineAt (start y .args .s .now) (start y .args .at))) (values y .three-at .result)
+there y = held-three _ _ (values y .three-at .result) (answers (values y)) (not-false (values y .three-at .result .ok) (y .before .before .if1 .left))
 
 resource-is : (c : tie.After-is-declared) → c .is-declared .result ≡ isDeclared (start (c .before) .args .n) (cell 0 (there (c .before) .x))
 resource-is c =
     c .is-declared .ensures
-    ∙ ap (isDeclared (start (c .before) .args .n)) (came (getD (values (c .before) .row-at .result .v) 0 (pos 0)) (c .before .before .x .given) ∙ there (c .before) .cells 0 (omega arith))
+    ∙ ap (isDeclared (start (c .before) .args .n)) (came (values (c .before) .three-at .result .first) (c .before .before .struct-told .given .1 .0 .1) ∙ there (c .before) .first)
 
 constraint-is : (c : tie.After-is-declared2) → c .is-declared2 .result ≡ isDeclared (start (c .before .before .before) .args .m) (cell 1 (there (c .before .before .before) .x))
 constraint-is c =
     c .is-declared2 .ensures
-    ∙ ap (isDeclared (start (c .before .before .before) .args .m)) (came (getD (values (c .before .before .before) .row-at .result .v) 1 (pos 0)) (c .before .before .before .y .given) ∙ there (c .before .before .before) .cells 1 (omega arith))
+    ∙ ap (isDeclared (start (c .before .before .before) .args .m)) (came (values (c .before .before .before) .three-at .result .second) (c .before .before .before .struct-told2 .given .1 .1 .0 .1) ∙ there (c .before .before .before) .second)
 
-row-at-requires : tie.Need-row-at-requires
-row-at-requires c κs = search needs
+three-at-requires : tie.Need-three-at-requires
+three-at-requires c κs = search needs
 
 no-factor-requires : tie.Need-no-factor-requires
 no-factor-requires c κs = search needs
@@ -60,13 +60,7 @@ returns c =
     let r = c .before .before .before in
     let a = r .before .before in
     c .no-factor .ensures
-    ∙ no-row (end a) (isFactor (a .args .n) (a .args .m) (from a)) (row 3 (lineAt (a .args .s .now) (a .args .at))) (not-held _ _ (r .row-at .result) (answers r) (not-true (r .row-at .result .ok) (c .before .if1 .taken)))
-
-array-copy-out-x : tie.Need-array-copy-out-x
-array-copy-out-x c = search needs
-
-array-copy-out-y : tie.Need-array-copy-out-y
-array-copy-out-y c = search needs
+    ∙ no-row (end a) (isFactor (a .args .n) (a .args .m) (from a)) (row 3 (lineAt (a .args .s .now) (a .args .at))) (not-held-three _ _ (r .three-at .result) (answers r) (not-true (r .three-at .result .ok) (c .before .if1 .taken)))
 
 is-declared-requires : tie.Need-is-declared-requires
 is-declared-requires c κs = search needs
@@ -109,17 +103,17 @@ whole-requires c κs = search needs
 whole-requires-2 : tie.Need-whole-requires-2
 whole-requires-2 c κs = search needs
 
-abbrev read : tie.After-whole2 → tie.After-y
+abbrev read : tie.After-whole2 → tie.After-struct-told2
 read c = c .before .before .before .before .before .before
 
 constrained : (c : tie.After-whole2) → isDeclared (start (read c) .args .m) (cell 1 (there (read c) .x)) ≡ true
 constrained c = sym (constraint-is (c .before .before .before)) ∙ not-false (c .before .before .before .is-declared2 .result) (c .before .before .if3 .left)
 
 resource-id : (c : tie.After-whole2) → c .before .whole .result ≡ natOf (cell 0 (there (read c) .x))
-resource-id c = c .before .whole .ensures ∙ ap natOf (came (getD (values (read c) .row-at .result .v) 0 (pos 0)) (read c .before .x .given) ∙ there (read c) .cells 0 (omega arith))
+resource-id c = c .before .whole .ensures ∙ ap natOf (came (values (read c) .three-at .result .first) (read c .before .struct-told .given .1 .0 .1) ∙ there (read c) .first)
 
 constraint-id : (c : tie.After-whole2) → c .whole2 .result ≡ natOf (cell 1 (there (read c) .x))
-constraint-id c = c .whole2 .ensures ∙ ap natOf (came (getD (values (read c) .row-at .result .v) 1 (pos 0)) (read c .y .given) ∙ there (read c) .cells 1 (omega arith))
+constraint-id c = c .whole2 .ensures ∙ ap natOf (came (values (read c) .three-at .result .second) (read c .struct-told2 .given .1 .1 .0 .1) ∙ there (read c) .second)
 
 comes-at-requires : tie.Need-comes-at-requires
 comes-at-requires c κs =
@@ -152,9 +146,6 @@ returns-4 c =
 factor-cell-requires : tie.Need-factor-cell-requires
 factor-cell-requires c κs = search needs
 
-array-copy-out-t16 : tie.Need-array-copy-out-t16
-array-copy-out-t16 c = search needs
-
 -- a factor by its fields
 by-fields : {r r' c c' i i' e e' : ℕ} {v v' : ℤ} → r ≡ r' → c ≡ c' → i ≡ i' → v ≡ v' → e ≡ e'
     → _≡_ {A = Factor} (record { ok = true; resource = r; constraint = c; cell = i; value = v; next = e }) (record { ok = true; resource = r'; constraint = c'; cell = i'; value = v'; next = e' })
@@ -169,7 +160,7 @@ returns-5 c =
     let h = there (read w) in
     by-fields (resource-id w) (constraint-id w)
     (k .factor-cell .ensures ∙ ap (λ (x : ℕ). factorCell x (w .whole2 .result)) (resource-id w) ∙ ap (factorCell (natOf (cell 0 (h .x)))) (constraint-id w))
-    (came (getD (values (read w) .row-at .result .v) 2 (pos 0)) (c .t16 .given) ∙ h .cells 2 (omega arith)) (h .after)
+    (came (values (read w) .three-at .result .third) (c .struct-told3 .given .1 .1 .1 .0 .1) ∙ h .third) (h .after)
     ∙ suited (end a) (isFactor (a .args .n) (a .args .m) (from a)) (row 3 (lineAt (a .args .s .now) (a .args .at))) (h .x) (h .is)
     (sym (placed d) ∙ not-false (d .comes-at .result) (k .before .if4 .left))
 
@@ -177,11 +168,9 @@ pub factor-at-spec : {M : Type 1} → statement M
 factor-at-spec =
     tie.close
     (tie.spec
-    row-at-requires
+    three-at-requires
     no-factor-requires
     returns
-    array-copy-out-x
-    array-copy-out-y
     is-declared-requires
     no-factor-requires-2
     returns-2
@@ -194,5 +183,4 @@ factor-at-spec =
     no-factor-requires-4
     returns-4
     factor-cell-requires
-    array-copy-out-t16
     returns-5)
