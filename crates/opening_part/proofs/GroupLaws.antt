@@ -4,38 +4,37 @@ use mathlib.Core.Path.{_≡_, refl, sym, ap, _∙_}
 use mathlib.Core.List.{List}
 use mathlib.Core.Option.{none, some}
 use mathlib.Core.Bool.{Bool, true, false, cond}
-use native.Mathlib.Omega.{arith}
-use lib.ListN.{length, drop, getD}
+use lib.ListN.{length, drop}
 use lib.IntN.{pos}
 use Rattle.number.specs.Order.{eqZ}
-use Rattle.text.specs.Numbers.{Row, row}
+use Rattle.text.specs.Numbers.{row}
 use Rattle.text.specs.Tables.{hasId, ifSuits}
-use Rattle.text.specs.Offsets.{asRow, rowAt}
-use Rattle.text.specs.declared.lines.Row as source
+use Rattle.text.specs.Offsets.{asRow, rowAt, threeOf}
+use Rattle.text.specs.declared.lines.Three.{Three}
 use Rattle.text.proofs.LineLaws.{line}
-use Rattle.text.proofs.RowLaws.{row-in, Held, held, not-held}
+use Rattle.text.proofs.RowLaws.{row-in, HeldThree, held-three, not-held-three}
 
-module _ (r : ℕ) (s : List ℕ) (at : ℕ) (x : source.Row) (e : x ≡ rowAt s at 3) where
-  as-line : x ≡ asRow (at + length (line (drop at s))) (row 3 (line (drop at s)))
-  as-line = e ∙ row-in (λ o. o) s at 3 refl
+module _ (r : ℕ) (s : List ℕ) (at : ℕ) (x : Three) (e : x ≡ threeOf (rowAt s at 3)) where
+  as-line : x ≡ threeOf (asRow (at + length (line (drop at s))) (row 3 (line (drop at s))))
+  as-line = e ∙ ap threeOf (row-in (λ o. o) s at 3 refl)
 
   -- it is no line of three values
   pub no-line : x .ok ≡ false → ifSuits (hasId r) (row 3 (line (drop at s))) ≡ none
-  no-line q = ap (ifSuits (hasId r)) (not-held (at + length (line (drop at s))) (row 3 (line (drop at s))) x as-line q)
+  no-line q = ap (ifSuits (hasId r)) (not-held-three (at + length (line (drop at s))) (row 3 (line (drop at s))) x as-line q)
 
   module _ (q : x .ok ≡ true) where
-    values : Held (at + length (line (drop at s))) (row 3 (line (drop at s))) x
-    values = held _ _ x as-line q
+    values : HeldThree (at + length (line (drop at s))) (row 3 (line (drop at s))) x
+    values = held-three _ _ x as-line q
 
-    suits-as : (b : Bool) → eqZ (pos r) (getD (x .v) 0 (pos 0)) ≡ b → ifSuits (hasId r) (row 3 (line (drop at s))) ≡ cond b (some (values .x)) none
+    suits-as : (b : Bool) → eqZ (pos r) (x .first) ≡ b → ifSuits (hasId r) (row 3 (line (drop at s))) ≡ cond b (some (values .x)) none
     suits-as b h =
         ap (ifSuits (hasId r)) (values .is)
-        ∙ ap (λ (d : Bool). cond d (some (values .x)) none) (sym (ap (eqZ (pos r)) (values .cells 0 (omega arith))) ∙ h)
+        ∙ ap (λ (d : Bool). cond d (some (values .x)) none) (sym (ap (eqZ (pos r)) (values .first)) ∙ h)
 
     -- it is another resource's
-    pub other-line : eqZ (pos r) (getD (x .v) 0 (pos 0)) ≡ false → ifSuits (hasId r) (row 3 (line (drop at s))) ≡ none
+    pub other-line : eqZ (pos r) (x .first) ≡ false → ifSuits (hasId r) (row 3 (line (drop at s))) ≡ none
     other-line h = suits-as false h
 
     -- it is the resource's own
-    pub own-line : eqZ (pos r) (getD (x .v) 0 (pos 0)) ≡ true → Held (at + length (line (drop at s))) (ifSuits (hasId r) (row 3 (line (drop at s)))) x
-    own-line h = record { x = values .x; is = suits-as true h; cells = values .cells; after = values .after }
+    pub own-line : eqZ (pos r) (x .first) ≡ true → HeldThree (at + length (line (drop at s))) (ifSuits (hasId r) (row 3 (line (drop at s)))) x
+    own-line h = record { x = values .x; is = suits-as true h; first = values .first; second = values .second; third = values .third; after = values .after }

@@ -11,9 +11,9 @@ use resource_part::no_costs;
 use resource_part::priced;
 use resource_part::with_points;
 use resource_part::with_steps;
-use text::lines::Row;
+use text::lines::Three;
 use text::lines::id_row_at;
-use text::lines::row_at;
+use text::lines::three_at;
 ghost use mathlib.Core.Path.{_≡_};
 ghost use mathlib.Core.List.{[]};
 ghost use Prim.Native.Nat.{_+_, _≤_};
@@ -21,7 +21,7 @@ ghost use lib.ListN.{length, drop};
 ghost use lib.IntN.{pos};
 ghost use Rattle.text.specs.Numbers.{lines};
 ghost use Rattle.text.specs.Tables.{found, grouped, pairs, each};
-ghost use Rattle.text.specs.Offsets.{rowAt};
+ghost use Rattle.text.specs.Offsets.{rowAt, threeOf};
 ghost use Rattle.parts.specs.Parts.{bidOf, costsOf};
 ghost use Rattle.parts.specs.Shown.{reading};
 ghost use Rattle.opening_part.specs.Shown.{keeping};
@@ -29,14 +29,14 @@ ghost use Rattle.opening_part.specs.Shown.{keeping};
 // A resource's steps, with the line after them and its offset.
 struct Steps {
     bid: RawCurve,
-    row: Row,
+    row: Three,
     next: usize,
 }
 
 // A resource's points, with the line after them and its offset.
 struct Points {
     costs: Costs,
-    row: Row,
+    row: Three,
     next: usize,
 }
 
@@ -56,10 +56,10 @@ pub(crate) struct CostsRead {
 }
 
 // The steps of resource r, from the line at an offset on, which is read already.
-fn steps_of(s: &[u8], at: usize, first: Row, r: usize) -> Steps
-    requires { ⌜ first ≡ rowAt (now s) at 3 ⌝ }
+fn steps_of(s: &[u8], at: usize, first: Three, r: usize) -> Steps
+    requires { ⌜ first ≡ threeOf (rowAt (now s) at 3) ⌝ }
     ensures { λ g. ⌜ g .bid ≡ bidOf (pos 0) (pairs r (lines (drop at (now (s .entry))))) ⌝ }
-    ensures { λ g. ⌜ g .row ≡ rowAt (now (s .entry)) (g .next) 3 ⌝ }
+    ensures { λ g. ⌜ g .row ≡ threeOf (rowAt (now (s .entry)) (g .next) 3) ⌝ }
     ensures { λ g. ⌜ lines (drop (g .next) (now (s .entry))) ≡ drop (g .bid .count) (lines (drop at (now (s .entry)))) ⌝ }
 {
     let mut steps = [RawStep { end: 0, price: 0 }; Curve::MAX_STEPS];
@@ -67,8 +67,7 @@ fn steps_of(s: &[u8], at: usize, first: Row, r: usize) -> Steps
     let mut next = at;
     let mut row = first;
     while row.ok {
-        let v = row.v;
-        if !is_of(r, v[0]) {
+        if !is_of(r, row.first) {
             return Steps {
                 bid: with_steps(count, steps),
                 row,
@@ -77,14 +76,14 @@ fn steps_of(s: &[u8], at: usize, first: Row, r: usize) -> Steps
         }
         if count < Curve::MAX_STEPS {
             let step = RawStep {
-                end: v[1],
-                price: v[2],
+                end: row.second,
+                price: row.third,
             };
             steps[count] = step;
         }
         count += 1;
         next = row.next;
-        let after = row_at(s, next, 3);
+        let after = three_at(s, next);
         row = after;
     }
     Steps {
@@ -95,10 +94,10 @@ fn steps_of(s: &[u8], at: usize, first: Row, r: usize) -> Steps
 }
 
 // The points of resource r, from the line at an offset on, which is read already.
-fn points_of(s: &[u8], at: usize, first: Row, r: usize) -> Points
-    requires { ⌜ first ≡ rowAt (now s) at 3 ⌝ }
+fn points_of(s: &[u8], at: usize, first: Three, r: usize) -> Points
+    requires { ⌜ first ≡ threeOf (rowAt (now s) at 3) ⌝ }
     ensures { λ g. ⌜ g .costs ≡ costsOf (pairs r (lines (drop at (now (s .entry))))) [] ⌝ }
-    ensures { λ g. ⌜ g .row ≡ rowAt (now (s .entry)) (g .next) 3 ⌝ }
+    ensures { λ g. ⌜ g .row ≡ threeOf (rowAt (now (s .entry)) (g .next) 3) ⌝ }
     ensures { λ g. ⌜ lines (drop (g .next) (now (s .entry))) ≡ drop (g .costs .count) (lines (drop at (now (s .entry)))) ⌝ }
 {
     let mut points = [Point { mw: 0, heat: 0 }; Costs::MAX_POINTS];
@@ -106,8 +105,7 @@ fn points_of(s: &[u8], at: usize, first: Row, r: usize) -> Points
     let mut next = at;
     let mut row = first;
     while row.ok {
-        let v = row.v;
-        if !is_of(r, v[0]) {
+        if !is_of(r, row.first) {
             return Points {
                 costs: with_points(count, points),
                 row,
@@ -116,14 +114,14 @@ fn points_of(s: &[u8], at: usize, first: Row, r: usize) -> Points
         }
         if count < Costs::MAX_POINTS {
             let point = Point {
-                mw: v[1],
-                heat: v[2],
+                mw: row.second,
+                heat: row.third,
             };
             points[count] = point;
         }
         count += 1;
         next = row.next;
-        let after = row_at(s, next, 3);
+        let after = three_at(s, next);
         row = after;
     }
     Points {
@@ -142,7 +140,7 @@ pub(crate) fn bids_at(s: &[u8], at: usize, m: usize, n: usize) -> Bids
     let mut bids = [no_bid(); Hour::MAX_RESOURCES];
     let mut line = n;
     let mut next = at;
-    let mut row = row_at(s, at, 3);
+    let mut row = three_at(s, at);
     let mut r = 0;
     while r < m {
         let group = steps_of(s, next, row, r);
@@ -168,7 +166,7 @@ pub(crate) fn points_at(s: &[u8], at: usize, m: usize, n: usize) -> CostsRead
     let mut costs = [no_costs(); Hour::MAX_RESOURCES];
     let mut line = n;
     let mut next = at;
-    let mut row = row_at(s, at, 3);
+    let mut row = three_at(s, at);
     let mut r = 0;
     while r < m {
         let group = points_of(s, next, row, r);

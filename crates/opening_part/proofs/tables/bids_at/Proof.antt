@@ -11,7 +11,7 @@ use lib.IntN.{pos}
 use Rattle.curve.specs.declared.RawCurve.{RawCurve}
 use Rattle.text.specs.Numbers.{lines}
 use Rattle.text.specs.Tables.{Reading, grouped, pairs}
-use Rattle.text.specs.Offsets.{rowAt}
+use Rattle.text.specs.Offsets.{rowAt, threeOf}
 use Rattle.parts.specs.Parts.{bidOf}
 use Rattle.opening_part.specs.Shown.{keeping}
 use Rattle.opening_part.proofs.KeepLaws.{Grouping, grouping-start, grouping-end, grouping-turn, line-fits}
@@ -23,7 +23,7 @@ whole s at m n = keeping 64 (bidOf (pos 0) []) (bidOf (pos 0)) (grouped pairs m 
 
 abbrev Inv-loop : tie.InvT-loop
 Inv-loop s at m n bids₀ line₀ next₀ row₀ r₀ bids line next row r =
-    Grouping (bidOf (pos 0)) m r line bids (lines (drop next s)) (whole s at m n) (n + lib.ListN.length (lines (drop at s))) × row ≡ rowAt s next 3
+    Grouping (bidOf (pos 0)) m r line bids (lines (drop next s)) (whole s at m n) (n + lib.ListN.length (lines (drop at s))) × row ≡ threeOf (rowAt s next 3)
 
 abbrev μ-loop : tie.MeasureT-loop
 μ-loop s at m n bids₀ line₀ next₀ row₀ r₀ bids line next row r = m - r
@@ -31,13 +31,13 @@ abbrev μ-loop : tie.MeasureT-loop
 no-bid-requires : tie.Need-no-bid-requires Inv-loop μ-loop
 no-bid-requires c κs = search needs
 
-row-at-requires : tie.Need-row-at-requires Inv-loop μ-loop
-row-at-requires c κs = search needs
+three-at-requires : tie.Need-three-at-requires Inv-loop μ-loop
+three-at-requires c κs = search needs
 
 loop-holds : tie.Need-loop-holds Inv-loop μ-loop
 loop-holds c =
     let a = c .before .before .before .args in
-    (grouping-start (bidOf (pos 0)) (bidOf (pos 0) []) (c .before .no-bid .result) (a .m) (a .n) (lines (drop (a .at) (a .s .now))) (c .before .no-bid .ensures), c .row-at .ensures)
+    (grouping-start (bidOf (pos 0)) (bidOf (pos 0) []) (c .before .no-bid .result) (a .m) (a .n) (lines (drop (a .at) (a .s .now))) (c .before .no-bid .ensures), c .three-at .ensures)
 
 steps-of-requires : tie.Need-steps-of-requires Inv-loop μ-loop
 steps-of-requires c κs = c .before .loop .inv .1
@@ -106,7 +106,7 @@ bids-at-spec =
     Inv-loop
     μ-loop
     no-bid-requires
-    row-at-requires
+    three-at-requires
     loop-holds
     steps-of-requires
     mul-bids

@@ -10,7 +10,7 @@ use lib.Seq.{set-out}
 use Rattle.cost.specs.declared.Costs.{Costs}
 use Rattle.text.specs.Numbers.{lines}
 use Rattle.text.specs.Tables.{Reading, grouped, pairs}
-use Rattle.text.specs.Offsets.{rowAt}
+use Rattle.text.specs.Offsets.{rowAt, threeOf}
 use Rattle.parts.specs.Parts.{costsOf}
 use Rattle.opening_part.specs.Shown.{keeping}
 use Rattle.opening_part.proofs.KeepLaws.{Grouping, grouping-start, grouping-end, grouping-turn, line-fits}
@@ -22,7 +22,7 @@ whole s at m n = keeping 64 (costsOf [] []) (λ xs. costsOf xs []) (grouped pair
 
 abbrev Inv-loop : tie.InvT-loop
 Inv-loop s at m n costs₀ line₀ next₀ row₀ r₀ costs line next row r =
-    Grouping (λ xs. costsOf xs []) m r line costs (lines (drop next s)) (whole s at m n) (n + lib.ListN.length (lines (drop at s))) × row ≡ rowAt s next 3
+    Grouping (λ xs. costsOf xs []) m r line costs (lines (drop next s)) (whole s at m n) (n + lib.ListN.length (lines (drop at s))) × row ≡ threeOf (rowAt s next 3)
 
 abbrev μ-loop : tie.MeasureT-loop
 μ-loop s at m n costs₀ line₀ next₀ row₀ r₀ costs line next row r = m - r
@@ -30,13 +30,13 @@ abbrev μ-loop : tie.MeasureT-loop
 no-costs-requires : tie.Need-no-costs-requires Inv-loop μ-loop
 no-costs-requires c κs = search needs
 
-row-at-requires : tie.Need-row-at-requires Inv-loop μ-loop
-row-at-requires c κs = search needs
+three-at-requires : tie.Need-three-at-requires Inv-loop μ-loop
+three-at-requires c κs = search needs
 
 loop-holds : tie.Need-loop-holds Inv-loop μ-loop
 loop-holds c =
     let a = c .before .before .before .args in
-    (grouping-start (λ xs. costsOf xs []) (costsOf [] []) (c .before .no-costs .result) (a .m) (a .n) (lines (drop (a .at) (a .s .now))) (c .before .no-costs .ensures), c .row-at .ensures)
+    (grouping-start (λ xs. costsOf xs []) (costsOf [] []) (c .before .no-costs .result) (a .m) (a .n) (lines (drop (a .at) (a .s .now))) (c .before .no-costs .ensures), c .three-at .ensures)
 
 points-of-requires : tie.Need-points-of-requires Inv-loop μ-loop
 points-of-requires c κs = c .before .loop .inv .1
@@ -105,7 +105,7 @@ points-at-spec =
     Inv-loop
     μ-loop
     no-costs-requires
-    row-at-requires
+    three-at-requires
     loop-holds
     points-of-requires
     mul-costs

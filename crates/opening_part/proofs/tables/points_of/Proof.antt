@@ -7,7 +7,7 @@ use mathlib.Core.Path.{_≡_, refl, sym, ap, _∙_}
 use mathlib.Core.Bool.{Bool}
 use mathlib.Core.List.{List, [], map}
 use mathlib.Core.Logic.{⊎-elim}
-use lib.ListN.{length, drop, getD, set, length-drop}
+use lib.ListN.{length, drop, set, length-drop}
 use lib.Seq.{drop-drop, set-out}
 use lib.IntN.{ℤ, pos}
 use Rattle.number.specs.Order.{eqZ}
@@ -16,9 +16,9 @@ use Rattle.cost.specs.declared.Point.{Point}
 use Rattle.cost.specs.declared.Costs.{Costs}
 use Rattle.text.specs.Numbers.{Row, lines, row}
 use Rattle.text.specs.Tables.{hasId, ifSuits, pairs}
-use Rattle.text.specs.Offsets.{kept, rowAt}
+use Rattle.text.specs.Offsets.{kept, rowAt, threeOf}
 use Rattle.text.proofs.LineLaws.{line, lines-few}
-use Rattle.text.proofs.RowLaws.{Held}
+use Rattle.text.proofs.RowLaws.{HeldThree}
 use Rattle.text.proofs.TableLaws.{Loop, room, ends, Turned, turns, kept-length}
 use Rattle.parts.specs.Parts.{pointOf}
 use Rattle.resource_part.specs.Joined.{withPoints}
@@ -42,7 +42,7 @@ abbrev Reads : List ℕ → ℕ → ℕ → ℕ → List Point → ℕ → Type 
 Reads s at r count points next = Loop 2 (of r) on pointOf count 0 points (drop next s) (length (rows s at r)) (whole s at r) (lines (drop at s))
 
 abbrev Inv-loop : tie.InvT-loop
-Inv-loop s at r points₀ count₀ next₀ row₀ points count next row = Reads s at r count points next × row ≡ rowAt s next 3
+Inv-loop s at r points₀ count₀ next₀ row₀ points count next row = Reads s at r count points next × row ≡ threeOf (rowAt s next 3)
 
 abbrev μ-loop : tie.MeasureT-loop
 μ-loop s at r points₀ count₀ next₀ row₀ points count next row = lib.ListN.length (lines (drop next s))
@@ -51,15 +51,12 @@ loop-holds : tie.Need-loop-holds Inv-loop μ-loop
 unfolding kept pairs
 loop-holds c = (record { count = omega arith; stores = refl; rest = refl }, c .before .pre)
 
-array-copy-out-is-of : tie.Need-array-copy-out-is-of Inv-loop μ-loop
-array-copy-out-is-of c = search needs
-
 is-of-requires : tie.Need-is-of-requires Inv-loop μ-loop
 is-of-requires c κs = search needs
 
 -- ---- the line that is asked
 abbrev loops : tie.After-is-of Inv-loop μ-loop → tie.At-loop Inv-loop μ-loop
-loops c = c .before .before .before .before
+loops c = c .before .before .before
 
 abbrev text : tie.At-loop Inv-loop μ-loop → List ℕ
 text l = l .before .before .args .s .now
@@ -70,8 +67,8 @@ start l = l .before .before .args .at
 abbrev resource : tie.At-loop Inv-loop μ-loop → ℕ
 resource l = l .before .before .args .r
 
-tests : (c : tie.After-is-of Inv-loop μ-loop) → c .is-of .result ≡ eqZ (pos (resource (loops c))) (getD (loops c .loop .row .v) 0 (pos 0))
-tests c = c .is-of .ensures ∙ ap (eqZ (pos (resource (loops c)))) (came (getD (loops c .loop .row .v) 0 (pos 0)) (c .before .is-of-arg .given))
+tests : (c : tie.After-is-of Inv-loop μ-loop) → c .is-of .result ≡ eqZ (pos (resource (loops c))) (loops c .loop .row .first)
+tests c = c .is-of .ensures ∙ ap (eqZ (pos (resource (loops c)))) (came (loops c .loop .row .first) (c .before .struct-told .given .1 .0 .1))
 
 -- costs by their points
 by-fields : {n n' : ℕ} {l l' : List Point} → n ≡ n' → l ≡ l' → withPoints n l ≡ withPoints n' l'
@@ -85,14 +82,8 @@ returns c =
     let i = c .before .before in
     let l = loops i in
     let d = ends 2 (of (resource l)) on pointOf (l .loop .count) 0 (l .loop .points) (drop (l .loop .next) (text l)) _ _ _ (l .loop .inv .0)
-    (other-line (resource l) (text l) (l .loop .next) (l .loop .row) (l .loop .inv .1) (i .before .before .before .loop-test .taken) (sym (tests i) ∙ not-true (i .is-of .result) (c .before .if1 .taken))) in
+    (other-line (resource l) (text l) (l .loop .next) (l .loop .row) (l .loop .inv .1) (i .before .before .loop-test .taken) (sym (tests i) ∙ not-true (i .is-of .result) (c .before .if1 .taken))) in
     (c .with-points .ensures ∙ by-fields (d .count) (d .stores), (l .loop .inv .1, d .rest ∙ ap (λ (k : Costs). drop (k .count) (lines (drop (start l) (text l)))) (sym (c .with-points .ensures))))
-
-array-copy-out-t22 : tie.Need-array-copy-out-t22 Inv-loop μ-loop
-array-copy-out-t22 c = search needs
-
-array-copy-out-t25 : tie.Need-array-copy-out-t25 Inv-loop μ-loop
-array-copy-out-t25 c = search needs
 
 mul-points : tie.Need-mul-points Inv-loop μ-loop
 mul-points c = omega arith
@@ -106,11 +97,11 @@ asked c = c .before .before
 
 there : (c : tie.Joined2 Inv-loop μ-loop)
     → let l = loops (asked c) in
-    Held (l .loop .next + length (line (drop (l .loop .next) (text l)))) (ifSuits (hasId (resource l)) (row 3 (line (drop (l .loop .next) (text l))))) (l .loop .row)
+    HeldThree (l .loop .next + length (line (drop (l .loop .next) (text l)))) (ifSuits (hasId (resource l)) (row 3 (line (drop (l .loop .next) (text l))))) (l .loop .row)
 there c =
     let i = asked c in
     let l = loops i in
-    own-line (resource l) (text l) (l .loop .next) (l .loop .row) (l .loop .inv .1) (i .before .before .before .loop-test .taken) (sym (tests i) ∙ not-false (i .is-of .result) (c .before .if1 .left))
+    own-line (resource l) (text l) (l .loop .next) (l .loop .row) (l .loop .inv .1) (i .before .before .loop-test .taken) (sym (tests i) ∙ not-false (i .is-of .result) (c .before .if1 .left))
 
 point-by : {e e' p p' : ℤ} → e ≡ e' → p ≡ p' → _≡_ {A = Point} (record { mw = e; heat = p }) (record { mw = e'; heat = p' })
 point-by a b = cc
@@ -121,12 +112,12 @@ turn : (c : tie.Joined2 Inv-loop μ-loop)
     0 (c .if2 .points) (drop (l .loop .row .next) (text l))
 turn c =
     let l = loops (asked c) in
-    let v = l .loop .row .v in
+    let x = l .loop .row in
     let h = there c in
     let long = room 2 (of (resource l)) on pointOf (l .loop .count) 0 (l .loop .points) (drop (l .loop .next) (text l)) _ _ _ (l .loop .inv .0) ∙ kept-length 11 (pointOf []) (map pointOf (rows (text l) (start l) (resource l))) in
     turns 2 (of (resource l)) on pointOf (l .loop .count) 0 (l .loop .points) (drop (l .loop .next) (text l)) _ _ _ (l .loop .inv .0) (h .x) (h .is)
     0 refl (c .if2 .points)
-    (⊎-elim (λ w. w .3 ∙ ap (set (l .loop .points) (l .loop .count)) (point-by (came (getD v 1 (pos 0)) (w .1 .given) ∙ h .cells 1 (omega arith)) (came (getD v 2 (pos 0)) (w .2 .given) ∙ h .cells 2 (omega arith))))
+    (⊎-elim (λ w. w .2 ∙ ap (set (l .loop .points) (l .loop .count)) (point-by (came (x .second) (w .1 .given .1 .1 .0 .1) ∙ h .second) (came (x .third) (w .1 .given .1 .1 .1 .0 .1) ∙ h .third)))
     (λ w. w .1 ∙ sym (set-out (l .loop .points) (l .loop .count) (pointOf (h .x)) (omega (arith, w .0 .left)))) (c .if2 .came))
     (drop (l .loop .row .next) (text l))
     (ap (λ (n : ℕ). drop n (text l)) (h .after) ∙ sym (drop-drop (length (line (drop (l .loop .next) (text l)))) (l .loop .next) (text l)))
@@ -139,14 +130,14 @@ add-count c =
     let d = length-drop (start l) (text l) in
     omega (arith, l .before .before .good)
 
-row-at-requires : tie.Need-row-at-requires Inv-loop μ-loop
-row-at-requires c κs = search needs
+three-at-requires : tie.Need-three-at-requires Inv-loop μ-loop
+three-at-requires c κs = search needs
 
 loop-less : tie.Need-loop-less Inv-loop μ-loop
 loop-less c = turn (c .before) .fewer
 
 loop-again : tie.Need-loop-again Inv-loop μ-loop
-loop-again c = (turn (c .before) .again, c .row-at .ensures)
+loop-again c = (turn (c .before) .again, c .three-at .ensures)
 
 with-points-requires-2 : tie.Need-with-points-requires-2 Inv-loop μ-loop
 with-points-requires-2 c κs = search needs
@@ -165,16 +156,13 @@ points-of-spec =
     Inv-loop
     μ-loop
     loop-holds
-    array-copy-out-is-of
     is-of-requires
     with-points-requires
     returns
-    array-copy-out-t22
-    array-copy-out-t25
     mul-points
     array-set-from-points
     add-count
-    row-at-requires
+    three-at-requires
     loop-less
     loop-again
     with-points-requires-2
