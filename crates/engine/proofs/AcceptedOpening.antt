@@ -1,23 +1,20 @@
--- What an accepted opening is like: its counts, its bids and default curves, and the rows of its fresh hour.
+-- What an accepted opening is like: its counts, its bids and default curves, and the rows and floor prices of its fresh hour.
 use mathlib.Core.Bool.{true, _&&_}
-use mathlib.Core.List.{List}
-use mathlib.Core.Path.{_≡_}
-use Prim.Native.Nat.{ℕ, _-_, _≤_, _<_}
-use native.Mathlib.Omega.{arith}
+use mathlib.Core.Path.{_≡_, refl}
+use Prim.Native.Nat.{ℕ, zero, suc, _≤_, _<_}
 use borrow.Author.Tests.{leb-true}
 use lib.Dec.{leb}
 use lib.IntN.{pos}
-use lib.ListN.{length, replicate, length-append}
+use lib.ListN.{length, replicate, getD}
 use Rattle.number.specs.Order.{inRange, natOf}
-use Rattle.number.specs.Over.{listed, padded}
-use Rattle.number.proofs.OverLaws.{both, listed-length}
+use Rattle.number.proofs.OverLaws.{both}
 use Rattle.curve.specs.Refusals.{unless, _then_, eachTo}
 use Rattle.curve.specs.Curves.{bidRefusal, lowestBid, highestBid, lowestDefault, highestDefault}
 use Rattle.curve.specs.Meaning.{Sound}
 use Rattle.curve.proofs.CheckLaws.{then-both, unless-holds, each-at, checked-sound}
 use Rattle.mitigation.specs.Meaning.{Inside}
 use Rattle.cost.proofs.DefaultCurve.{cost-sound}
-use Rattle.engine.specs.Hours.{noRow, rowAt}
+use Rattle.engine.specs.Hours.{uncut, freshStanding, noRow, rowAt, floorIn}
 use Rattle.opening.specs.Openings.{resourceAt, countsGood, membersGood, openingRefusal}
 use Rattle.engine.specs.Openings.{freshHour, openedHour}
 use Rattle.engine.specs.Demand3.{submitted, defaultOf}
@@ -25,7 +22,6 @@ use Rattle.resource.specs.declared.Source.{Source}
 use Rattle.resource.specs.declared.Source.the-variants as source
 use Rattle.resource.specs.declared.Resource.{Resource}
 use Rattle.opening.specs.declared.Opening.{Opening}
-use Rattle.resource.specs.declared.Row.{Row}
 use Rattle.engine.proofs.CellLaws.{cell-listed}
 use Rattle.resource.specs.Resources.{blankRow, defaultBy, liesInside, resourceRefusal, rowOf, sourceRefusal}
 
@@ -48,13 +44,13 @@ module _ (o : Opening) (accepted : openingRefusal o ≡ 0) where
       let y = then-both (unless (countsGood o) 9) (unless (membersGood o) 10) (x .0) in
       (unless-holds (countsGood o) 8 (y .0), x .1)
 
-  -- at most 16 portfolios, and at least one resource
-  pub few : (o .portfolios ≤ 16) × (0 < o .resources)
+  -- at most 16 portfolios, and one to 64 resources
+  pub few : (o .portfolios ≤ 16) × (0 < o .resources) × (o .resources ≤ 64)
   few =
       let counts = both (leb 1 (o .portfolios) && leb (o .portfolios) 16) (leb 1 (o .resources) && leb (o .resources) 64) (both (inRange (pos 1) (pos 1200) (o .month)) _ (checks .0) .1) in
       let p = both (leb 1 (o .portfolios)) (leb (o .portfolios) 16) (counts .0) in
       let r = both (leb 1 (o .resources)) (leb (o .resources) 64) (counts .1) in
-      (leb-true _ _ (p .1), leb-true _ _ (r .0))
+      (leb-true _ _ (p .1), leb-true _ _ (r .0), leb-true _ _ (r .1))
 
   module _ (r : ℕ) (l : r < o .resources) where
     -- bid, costs or pack, and 11 let it pass
@@ -93,9 +89,16 @@ module _ (o : Opening) where
   unfolding freshHour rowOf
   fresh-row r l = cell-listed 64 blankRow noRow (λ i. rowOf (resourceAt o i)) (o .resources) r l
 
-  -- and room for them all
-  pub fresh-room : o .resources ≤ length (freshHour o .rows)
-  unfolding freshHour padded
-  fresh-room =
-      let rows : List Row = listed (λ i. rowOf (resourceAt o i)) (o .resources) in
-      omega (arith, listed-length (λ i. rowOf (resourceAt o i)) (o .resources), length-append rows (replicate (64 - length rows) blankRow))
+  -- a floor price for each, none yet
+  pub fresh-room : openingRefusal o ≡ 0 → o .resources ≤ length (freshHour o .standing .floors)
+  unfolding freshHour freshStanding
+  fresh-room accepted = few o accepted .2
+
+  pub fresh-floor : (r : ℕ) → r < o .resources → floorIn (freshHour o) r ≡ uncut
+  unfolding freshHour freshStanding
+  fresh-floor r l = filled 64 r
+    where
+      filled : (n i : ℕ) → getD (replicate n uncut) i uncut ≡ uncut
+      filled zero i = refl
+      filled (suc n) zero = refl
+      filled (suc n) (suc i) = filled n i

@@ -8,44 +8,55 @@ use lib.IntN.{ℤ}
 use Rattle.number.specs.Over.{upTo}
 use Rattle.interval.specs.Intervals.{dispatchAt, lmpAt, intervalRefusal}
 use Rattle.interval.specs.declared.Interval.{Interval}
-use Rattle.path.specs.Judgements.{verdictsOf, judgedVerdicts}
+use lib.ListN.{replicate}
+use Rattle.path.specs.Verdicts.{notBinding}
+use Rattle.path.specs.Judgements.{verdictsOf, verdictsUnless, judgedVerdicts}
 use Rattle.path.specs.declared.Market.{Market}
 use Rattle.path.specs.declared.Verdict.{Verdict}
 use Rattle.engine.specs.Cuts.{cutBy, cutOf}
-use Rattle.engine.specs.Hours.{cutRow, nextHour, hourRefusal, unlessRefused, hourAfter, hourVerdicts}
-use Rattle.engine.specs.Weights.{weightsOf, cutRows}
-use Rattle.resource.specs.declared.Row.{Row}
-use Rattle.engine.specs.declared.Hour.{Hour}
-use Rattle.engine.proofs.RowLaws.{cutAt}
+use Rattle.engine.specs.Hours.{cutFloor, nextStanding, callRefusal, standingUnless, standingAfter, callVerdicts}
+use Rattle.engine.specs.Weights.{weightsOf, cutFloors}
+use Rattle.engine.specs.declared.Floor.{Floor}
+use Rattle.engine.specs.declared.Standing.{Standing}
+use Rattle.engine.proofs.FloorLaws.{cutAt}
 use Rattle.engine.proofs.WeightLaws.{weighed-is}
 
-module _ (h : Hour) (v : Interval) where
+module _ (m : Market) (s : Standing) (v : Interval) where
   -- four are accepted already
-  pub full : 4 ≤ h .accepted → hourRefusal h v ≡ 12
-  unfolding hourRefusal
-  full l = rw (le-ltb (h .accepted) 4 l)
+  pub full : 4 ≤ s .accepted → callRefusal m s v ≡ 12
+  unfolding callRefusal
+  full l = rw (le-ltb (s .accepted) 4 l)
 
   -- fewer are: the interval's own number
-  pub open-for : h .accepted < 4 → hourRefusal h v ≡ intervalRefusal (h .market .resources) v
-  unfolding hourRefusal
-  open-for l = rw (lt-ltb (h .accepted) 4 l)
+  pub open-for : s .accepted < 4 → callRefusal m s v ≡ intervalRefusal (m .resources) v
+  unfolding callRefusal
+  open-for l = rw (lt-ltb (s .accepted) 4 l)
 
-  -- a refusal leaves the hour
-  pub refused-hour : 0 < hourRefusal h v → hourAfter h v ≡ h
-  unfolding hourAfter
-  refused-hour l = go (hourRefusal h v) l
+  -- a refusal leaves the standing
+  pub refused-standing : 0 < callRefusal m s v → standingAfter m s v ≡ s
+  unfolding standingAfter
+  refused-standing l = go (callRefusal m s v) l
     where
-      go : (n : ℕ) → 0 < n → unlessRefused n (nextHour h v) h ≡ h
+      go : (n : ℕ) → 0 < n → standingUnless n (nextStanding m s v) s ≡ s
       go zero l = absurd (omega arith)
       go (suc n) l = refl
 
-  pub taken-hour : hourRefusal h v ≡ 0 → hourAfter h v ≡ nextHour h v
-  unfolding hourAfter
-  taken-hour e = rw e
+  pub taken-standing : callRefusal m s v ≡ 0 → standingAfter m s v ≡ nextStanding m s v
+  unfolding standingAfter
+  taken-standing e = rw e
+
+  -- and carries no verdicts
+  pub refused-verdicts : 0 < callRefusal m s v → callVerdicts m s v ≡ replicate 32 notBinding
+  unfolding callVerdicts
+  refused-verdicts l = go (callRefusal m s v) l
+    where
+      go : (n : ℕ) → 0 < n → verdictsUnless n (verdictsOf m v) ≡ replicate 32 notBinding
+      go zero l = absurd (omega arith)
+      go (suc n) l = refl
 
   -- the verdicts of a call on an hour that isn't full are the judged ones
-  pub open-verdicts : h .accepted < 4 → judgedVerdicts (h .market) v ≡ hourVerdicts h v
-  unfolding judgedVerdicts hourVerdicts
+  pub open-verdicts : s .accepted < 4 → judgedVerdicts m v ≡ callVerdicts m s v
+  unfolding judgedVerdicts callVerdicts
   open-verdicts l = rw (open-for l)
 
 -- an interval that isn't refused is judged
@@ -60,11 +71,11 @@ upTo-same f g k zero l h = refl
 upTo-same f g k (suc n) [] h = refl
 upTo-same {A} f g k (suc n) (x ∷ l) h = ap₂ (λ (y : A) (t : List A). y ∷ t) (h k x) (upTo-same f g (suc k) n l h)
 
--- the rows that the code cuts are those of the next hour
-pub rows-cut : (m : Market) (v : Interval) (verdicts : List Verdict) (n : ℕ) (rows : List Row) → verdicts ≡ verdictsOf m v
-    → cutRows (v .lmp) (v .dispatch) (v .factors) (v .parameter) (weightsOf (v .shadow) verdicts (v .constraints)) (v .constraints) n rows ≡ upTo (λ r x. cutRow (cutOf m v r) x) 0 n rows
-unfolding cutRows cutOf
-rows-cut m v verdicts n rows e =
-    ap (λ (l : List Verdict). upTo (λ r x. cutRow (cutAt (v .lmp) (v .dispatch) (v .factors) (v .parameter) (weightsOf (v .shadow) l (v .constraints)) (v .constraints) rows n r) x) 0 n rows) e
-    ∙ upTo-same (λ r x. cutRow (cutAt (v .lmp) (v .dispatch) (v .factors) (v .parameter) (weightsOf (v .shadow) (verdictsOf m v) (v .constraints)) (v .constraints) rows n r) x) (λ r x. cutRow (cutOf m v r) x) 0 n rows
-    (λ r x. ap (λ (z : ℤ). cutRow (cutBy (dispatchAt v r) (lmpAt v r) z (v .parameter)) x) (weighed-is m v r))
+-- the floor prices that the code cuts are those of the next standing
+pub floors-cut : (m : Market) (v : Interval) (verdicts : List Verdict) (n : ℕ) (floors : List Floor) → verdicts ≡ verdictsOf m v
+    → cutFloors (v .lmp) (v .dispatch) (v .factors) (v .parameter) (weightsOf (v .shadow) verdicts (v .constraints)) (v .constraints) n floors ≡ upTo (λ r x. cutFloor (cutOf m v r) x) 0 n floors
+unfolding cutFloors cutOf
+floors-cut m v verdicts n floors e =
+    ap (λ (l : List Verdict). upTo (λ r x. cutFloor (cutAt (v .lmp) (v .dispatch) (v .factors) (v .parameter) (weightsOf (v .shadow) l (v .constraints)) (v .constraints) floors n r) x) 0 n floors) e
+    ∙ upTo-same (λ r x. cutFloor (cutAt (v .lmp) (v .dispatch) (v .factors) (v .parameter) (weightsOf (v .shadow) (verdictsOf m v) (v .constraints)) (v .constraints) floors n r) x) (λ r x. cutFloor (cutOf m v r) x) 0 n floors
+    (λ r x. ap (λ (z : ℤ). cutFloor (cutBy (dispatchAt v r) (lmpAt v r) z (v .parameter)) x) (weighed-is m v r))

@@ -11,16 +11,15 @@ use Rattle.mitigation.specs.declared.FloorPrice.{FloorPrice}
 use Rattle.mitigation.specs.declared.FloorPrice.the-variants.{Uncut}
 use Rattle.mitigation.proofs.MitigatedCurve.{mitigated-is, mitigated-only, nineteen-suffice}
 use Rattle.interval.specs.declared.Interval.{Interval}
-use Rattle.engine.specs.Hours.{rowAt, curveIn, hourAfterAll}
+use Rattle.engine.specs.Hours.{floorIn, curveIn, hourAfterAll}
 use Rattle.opening.specs.Openings.{openingRefusal}
 use Rattle.engine.specs.Openings.{openedHour}
 use Rattle.engine.specs.Demand3.{submitted, defaultOf, hourOf, curveAfter}
-use Rattle.resource.specs.declared.Row.{Row}
+use Rattle.engine.specs.declared.Floor.{Floor}
 use Rattle.engine.specs.declared.Hour.{Hour}
 use Rattle.opening.specs.declared.Opening.{Opening}
-use Rattle.engine.proofs.AcceptedOpening.{opened-hour, bid-sound, default-sound, bid-inside, fresh-row}
+use Rattle.engine.proofs.AcceptedOpening.{opened-hour, bid-sound, default-sound, bid-inside, fresh-floor}
 use Rattle.engine.proofs.KeptLaws.{hour-kept, kept-curve}
-use Rattle.resource.specs.Resources.{rowOf}
 
 -- What the curve c of resource r is where its floor price is k: the bid with each quantity at the smaller of its price and its cap, its prices never falling and
 -- no two neighbours with one price; it is the only such curve, and 19 steps suffice.
@@ -31,9 +30,9 @@ pub record Shape (o : Opening) (r : ℕ) (k : FloorPrice) (c : Mitigated) : Type
 
 module _ (o : Opening) (r : ℕ) (accepted : openingRefusal o ≡ 0) (l : r < o .resources) where
   -- the curve after any list of calls
-  pub shape : (calls : List Interval) → Shape o r (rowAt (hourOf o calls) r .floor) (curveAfter o calls r)
+  pub shape : (calls : List Interval) → Shape o r (floorIn (hourOf o calls) r .price) (curveAfter o calls r)
   shape calls =
-      let k = rowAt (hourOf o calls) r .floor in
+      let k = floorIn (hourOf o calls) r .price in
       let b = bid-sound o accepted r l in
       let d = default-sound o accepted r l in
       let i = bid-inside o accepted r l in
@@ -46,7 +45,7 @@ module _ (o : Opening) (r : ℕ) (accepted : openingRefusal o ≡ 0) (l : r < o 
 
   -- the curve in the opened hour: no floor price, and merged too
   pub opened-shape : Shape o r Uncut (curveIn (openedHour o) r)
-  unfolding hourAfterAll rowOf
+  unfolding hourAfterAll
   opened-shape =
-      let uncut = ap (λ (h : Hour). rowAt h r .floor) (opened-hour o accepted) ∙ ap (λ (x : Row). x .floor) (fresh-row o r l) in
+      let uncut = ap (λ (h : Hour). floorIn h r .price) (opened-hour o accepted) ∙ ap (λ (x : Floor). x .price) (fresh-floor o r l) in
       subst (λ (k : FloorPrice). Shape o r k (curveIn (openedHour o) r)) uncut (shape [])

@@ -14,7 +14,7 @@ use Rattle.curve.specs.Refusals.{unless, _then_}
 use Rattle.curve.proofs.CheckLaws.{then-both, unless-holds}
 use Rattle.interval.specs.Intervals.{sameCount, constraintsGood, rangesGood, outputsGood, intervalRefusal}
 use Rattle.interval.specs.declared.Interval.{Interval}
-use Rattle.engine.specs.Hours.{hourRefusal}
+use Rattle.engine.specs.Hours.{callRefusal, hourRefusal}
 use Rattle.opening.specs.Openings.{openingRefusal}
 use Rattle.engine.specs.Demand3.{soundCalls, acceptedCalls, hourOf}
 use Rattle.opening.specs.declared.Opening.{Opening}
@@ -45,17 +45,17 @@ never-twelve n v =
 
 module _ (o : Opening) (calls : List Interval) (accepted : openingRefusal o ≡ 0) where
   -- the hour's count
-  count : hourOf o calls .accepted ≡ length (acceptedCalls o calls)
+  count : hourOf o calls .standing .accepted ≡ length (acceptedCalls o calls)
   count = hour-count o accepted calls 0 (few o accepted .1)
 
   -- "4 intervals an hour"
-  pub hour-at-most-four : hourOf o calls .accepted ≤ 4
+  pub hour-at-most-four : hourOf o calls .standing .accepted ≤ 4
   hour-at-most-four = rw count (at-most-four o calls)
 
   module _ (v : Interval) where
     -- the next call's number, from the opening data and the calls alone
     pub next-refusal : hourRefusal (hourOf o calls) v ≡ (unless (ltb (length (acceptedCalls o calls)) 4) 12 then intervalRefusal (o .resources) v)
-    unfolding hourRefusal
+    unfolding callRefusal
     next-refusal = ap₂ (λ (a n : ℕ). unless (ltb a 4) 12 then intervalRefusal n v) count (resources-kept o (hourOf o calls) (hour-kept o calls accepted))
 
     -- 12 is told exactly when four were accepted before

@@ -14,14 +14,14 @@ use Rattle.mitigation.proofs.MitigationLaws.{capped-again}
 use Rattle.interval.specs.Intervals.{lmpAt, dispatchAt}
 use Rattle.interval.specs.declared.Interval.{Interval}
 use Rattle.engine.specs.Cuts.{cutOf}
-use Rattle.engine.specs.Hours.{rowAt, hourRefusal}
+use Rattle.engine.specs.Hours.{floorIn, hourRefusal}
 use Rattle.opening.specs.Openings.{marketOf, openingRefusal}
 use Rattle.engine.specs.Openings.{openedHour}
 use Rattle.engine.specs.Demand3.{submittedPrice, defaultPrice, InBid, Component, Competitive, hourOf, curveAfter}
-use Rattle.resource.specs.declared.Row.{Row}
+use Rattle.engine.specs.declared.Floor.{Floor}
 use Rattle.engine.specs.declared.Hour.{Hour}
 use Rattle.opening.specs.declared.Opening.{Opening}
-use Rattle.engine.proofs.KeptLaws.{accepted-call, refused-call, one-more, next-row, hour-kept}
+use Rattle.engine.proofs.KeptLaws.{accepted-call, refused-call, one-more, next-floor, hour-kept}
 use Rattle.engine.proofs.Caps.{cut-exactly, uncut-exactly}
 use Rattle.engine.proofs.CurveShape.{shape}
 
@@ -49,10 +49,10 @@ pub record IntervalStep (o : Opening) (calls : List Interval) (v : Interval) (r 
 
 module _ (o : Opening) (calls : List Interval) (v : Interval) (r : ℕ) (accepted : openingRefusal o ≡ 0) (l : r < o .resources) where
   -- the floor price after an accepted interval is the lower of the two
-  floor-after : hourRefusal (hourOf o calls) v ≡ 0 → rowAt (hourOf o (followed calls v)) r .floor ≡ lowered (rowAt (hourOf o calls) r .floor) (cutOf (marketOf o) v r)
+  floor-after : hourRefusal (hourOf o calls) v ≡ 0 → floorIn (hourOf o (followed calls v)) r .price ≡ lowered (floorIn (hourOf o calls) r .price) (cutOf (marketOf o) v r)
   floor-after e =
-      ap (λ (h : Hour). rowAt h r .floor) (one-more (openedHour o) calls v ∙ accepted-call (hourOf o calls) v e)
-      ∙ ap (λ (x : Row). x .floor) (next-row o (hourOf o calls) (hour-kept o calls accepted) v r l)
+      ap (λ (h : Hour). floorIn h r .price) (one-more (openedHour o) calls v ∙ accepted-call (hourOf o calls) v e)
+      ∙ ap (λ (x : Floor). x .price) (next-floor o (hourOf o calls) (hour-kept o calls accepted) v r l)
 
   cut-by : hourRefusal (hourOf o calls) v ≡ 0 → (q : ℕ) → InBid o r q
       → priceAfter o (followed calls v) r q ≡ capped (cutOf (marketOf o) v r) (priceAfter o calls r q) (defaultPrice o r q)
@@ -61,7 +61,7 @@ module _ (o : Opening) (calls : List Interval) (v : Interval) (r : ℕ) (accepte
       let before = shape o r accepted l calls .is .price q (i .from-start) (i .below-end) in
       after
       ∙ ap (λ (k : FloorPrice). capped k (submittedPrice o r q) (defaultPrice o r q)) (floor-after e)
-      ∙ capped-again (rowAt (hourOf o calls) r .floor) (cutOf (marketOf o) v r) (submittedPrice o r q) (defaultPrice o r q)
+      ∙ capped-again (floorIn (hourOf o calls) r .price) (cutOf (marketOf o) v r) (submittedPrice o r q) (defaultPrice o r q)
       ∙ ap (λ (x : ℤ). capped (cutOf (marketOf o) v r) x (defaultPrice o r q)) (sym before)
 
   pub interval-by-interval : IntervalStep o calls v r

@@ -1,7 +1,7 @@
 -- Laws of opening and interval; then demand 3 and the other theorems; the marked cases.
 pub mod WeightLaws
 pub mod LimitLaws
-pub mod RowLaws
+pub mod FloorLaws
 pub mod AnswerLaws
 pub mod CellLaws
 pub mod RisingLaws

@@ -22,7 +22,7 @@ use Rattle.path.specs.Judgements.{verdictsOf}
 use Rattle.path.specs.declared.Finding.the-variants.{Competitive, NonCompetitive}
 use Rattle.path.specs.declared.Verdict.{Verdict}
 use Rattle.engine.specs.Cuts.{entering, component, cutBy, cutOf}
-use Rattle.engine.specs.Hours.{blankHour, curveIn, nextHour, hourRefusal, hourAfter, hourVerdicts, hourAfterAll}
+use Rattle.engine.specs.Hours.{freshStanding, blankHour, curveIn, nextStanding, callRefusal, standingAfter, callVerdicts, hourRefusal, hourAfter, hourVerdicts, hourAfterAll}
 use Rattle.opening.specs.Openings.{sellersGood, ownersGood, openingRefusal, marketOf}
 use Rattle.engine.specs.Openings.{freshHour, openedHour}
 use Rattle.engine.proofs.CaseT.{costsT, openingT, intervalAt, intervalT, costs3, path4, bid10}
@@ -86,7 +86,7 @@ unfolding inRange sumTo allTo highestTo listed those sumOver padded upTo eachTo 
     mwSuits mwGood heatGood chargesInRange pricesInRange ratesGood costRefusal
     allWithin factorsGood outputsGood intervalRefusal
     demand supply share withholdable offer offers largest top total mask amountOf sellers named left isNonCompetitive verdictOf verdictsOf
-    entering component cutBy cutOf blankHour curveIn nextHour hourRefusal hourAfter hourVerdicts hourAfterAll
+    entering component cutBy cutOf blankHour curveIn freshStanding nextStanding callRefusal standingAfter callVerdicts hourAfter hourAfterAll
     sellersGood ownersGood liesInside resourceRefusal openingRefusal rowOf marketOf freshHour openedHour
 marked = record {
   p1 = refl;

@@ -15,7 +15,7 @@ use Rattle.interval.specs.Intervals.{allWithin, factorsGood, outputsGood, inter
 use Rattle.interval.specs.declared.Interval.{Interval}
 use Rattle.path.specs.Paths.{demand, supply, share, withholdable, offer, offers, largest, top, total, sellers, left, isNonCompetitive}
 use Rattle.engine.specs.Cuts.{entering, component, cutBy, cutOf}
-use Rattle.engine.specs.Hours.{curveIn, nextHour, hourRefusal, hourAfter, hourAfterAll}
+use Rattle.engine.specs.Hours.{freshStanding, curveIn, nextStanding, callRefusal, standingAfter, hourRefusal, hourAfter, hourAfterAll}
 use Rattle.opening.specs.Openings.{noCosts, noResource, sellersGood, ownersGood, openingRefusal, marketOf}
 use Rattle.engine.specs.Openings.{freshHour, openedHour}
 use Rattle.resource.specs.declared.Source.the-variants as source
@@ -64,7 +64,7 @@ abbrev pub leaves : ℤ → ℤ → ℕ → Left
 leaves x y n = record { first = x; second = y; accepted = n }
 
 abbrev pub leftBy : Hour → Left
-leftBy h = leaves (priceAt (usedSteps (curveIn h 0)) 0) (priceAt (usedSteps (curveIn h 1)) 0) (h .accepted)
+leftBy h = leaves (priceAt (usedSteps (curveIn h 0)) 0) (priceAt (usedSteps (curveIn h 1)) 0) (h .standing .accepted)
 
 abbrev pub leftAfter : List Interval → Left
 leftAfter calls = leftBy (hourAfterAll (openedHour two) calls)
@@ -95,7 +95,7 @@ pub worked : Worked
 unfolding inRange sumTo allTo listed those sumOver padded upTo eachTo priceAt chain curveRefusal curveOf segmentsN joined joinedAfter mitigated
     allWithin factorsGood outputsGood intervalRefusal
     demand supply share withholdable offer offers largest top total sellers left isNonCompetitive
-    entering component cutBy cutOf curveIn nextHour hourRefusal hourAfter hourAfterAll
+    entering component cutBy cutOf curveIn freshStanding nextStanding callRefusal standingAfter hourAfter hourAfterAll
     sellersGood ownersGood liesInside resourceRefusal openingRefusal rowOf marketOf freshHour openedHour
 worked = record {
   opened = refl;

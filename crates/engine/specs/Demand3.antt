@@ -140,4 +140,4 @@ pub record Demand3 (o : Opening) (calls : List Interval) (r : ℕ) : Type 0 wher
   pub starts : curveAfter o calls r .start ≡ submitted o r .start
   pub ends : endOf (curveAfter o calls r .start) (usedSteps (curveAfter o calls r)) ≡ endOf (submitted o r .start) (stepsOf (submitted o r))
   -- "12 counts the accepted ones before it in the list"
-  pub counted : hourOf o calls .accepted ≡ length (acceptedCalls o calls)
+  pub counted : hourOf o calls .standing .accepted ≡ length (acceptedCalls o calls)

@@ -13,63 +13,90 @@ use Rattle.mitigation.specs.declared.FloorPrice.the-variants.{Uncut}
 use Rattle.interval.specs.Intervals.{intervalRefusal}
 use Rattle.interval.specs.declared.Interval.{Interval}
 use Rattle.path.specs.Judgements.{verdictsOf, verdictsUnless}
+use Rattle.path.specs.declared.Market.{Market}
 use Rattle.path.specs.declared.Verdict.{Verdict}
 use Rattle.resource.specs.Resources.{blankRow}
 use Rattle.opening.specs.Openings.{blankMarket}
 use Rattle.engine.specs.Cuts.{cutOf}
 use Rattle.resource.specs.declared.Row.{Row}
+use Rattle.engine.specs.declared.Floor.{Floor}
+use Rattle.engine.specs.declared.Standing.{Standing}
 use Rattle.engine.specs.declared.Hour.{Hour}
 
+-- ---- the standing: what intervals change of an hour
+-- no floor price yet; a read past the end of an array gives it too
+abbrev pub uncut : Floor
+uncut = record { price = Uncut }
+
+unfoldable pub freshStanding : Standing
+freshStanding = record { accepted = 0; floors = replicate 64 uncut }
+
+-- ---- the hour
 unfoldable pub blankHour : Hour
-blankHour = record { accepted = 0; market = blankMarket; rows = replicate 64 blankRow }
+blankHour = record { market = blankMarket; rows = replicate 64 blankRow; standing = freshStanding }
 
 -- what a read past the end of an array gives
 abbrev pub noCurve : Curve
 noCurve = record { start = 0; count = 0; steps = [] }
 
 abbrev pub noRow : Row
-noRow = record { bid = noCurve; default = noCurve; floor = Uncut }
+noRow = record { bid = noCurve; default = noCurve }
 
--- ---- the hour
--- resource r of the hour
+-- resource r of the hour, and the lowest floor price of the accepted intervals that cut it
 abbrev pub rowAt : Hour → ℕ → Row
 rowAt h r = getD (h .rows) r noRow
 
+abbrev pub floorIn : Hour → ℕ → Floor
+floorIn h r = getD (h .standing .floors) r uncut
+
 -- the curve of a row: each quantity at the smaller of its submitted price and its lowest cap
-abbrev pub rowCurve : Row → Mitigated
-rowCurve x = mitigated (x .floor) (x .bid) (x .default)
+abbrev pub rowCurve : Row → Floor → Mitigated
+rowCurve x k = mitigated (k .price) (x .bid) (x .default)
 
 unfoldable pub curveIn : Hour → ℕ → Mitigated
-curveIn h r = rowCurve (rowAt h r)
+curveIn h r = rowCurve (rowAt h r) (floorIn h r)
 
--- ---- an interval
--- a row after a cut
-abbrev pub cutRow : FloorPrice → Row → Row
-cutRow k x = record { bid = x .bid; default = x .default; floor = lowered (x .floor) k }
+-- ---- an interval, of an hour with this market and this standing
+-- a floor price after a cut
+abbrev pub cutFloor : FloorPrice → Floor → Floor
+cutFloor k x = record { price = lowered (x .price) k }
 
--- the hour after an interval that it accepts
-unfoldable pub nextHour : Hour → Interval → Hour
-nextHour h v = record {
-  accepted = h .accepted + 1;
-  market = h .market;
-  rows = upTo (λ r x. cutRow (cutOf (h .market) v r) x) 0 (h .market .resources) (h .rows);
+-- the standing after an interval that the hour accepts
+unfoldable pub nextStanding : Market → Standing → Interval → Standing
+nextStanding m s v = record {
+  accepted = s .accepted + 1;
+  floors = upTo (λ r x. cutFloor (cutOf m v r) x) 0 (m .resources) (s .floors);
 }
 
 -- 12: four are accepted already; then 13 to 16
-unfoldable pub hourRefusal : Hour → Interval → ℕ
-hourRefusal h v = unless (ltb (h .accepted) 4) 12 then intervalRefusal (h .market .resources) v
+unfoldable pub callRefusal : Market → Standing → Interval → ℕ
+callRefusal m s v = unless (ltb (s .accepted) 4) 12 then intervalRefusal (m .resources) v
 
--- a refusal leaves the hour as it was
-abbrev pub unlessRefused : ℕ → Hour → Hour → Hour
-unlessRefused zero next h = next
-unlessRefused (suc n) next h = h
+-- a refusal leaves the standing as it was
+abbrev pub standingUnless : ℕ → Standing → Standing → Standing
+standingUnless zero next s = next
+standingUnless (suc n) next s = s
 
-unfoldable pub hourAfter : Hour → Interval → Hour
-hourAfter h v = unlessRefused (hourRefusal h v) (nextHour h v) h
+unfoldable pub standingAfter : Market → Standing → Interval → Standing
+standingAfter m s v = standingUnless (callRefusal m s v) (nextStanding m s v) s
 
 -- the verdicts that an interval carries: none in a refusal
-unfoldable pub hourVerdicts : Hour → Interval → List Verdict
-hourVerdicts h v = verdictsUnless (hourRefusal h v) (verdictsOf (h .market) v)
+unfoldable pub callVerdicts : Market → Standing → Interval → List Verdict
+callVerdicts m s v = verdictsUnless (callRefusal m s v) (verdictsOf m v)
+
+-- ---- the same, of the hour
+-- an hour with another standing
+abbrev pub standingAt : Hour → Standing → Hour
+standingAt h s = record { market = h .market; rows = h .rows; standing = s }
+
+abbrev pub hourRefusal : Hour → Interval → ℕ
+hourRefusal h v = callRefusal (h .market) (h .standing) v
+
+unfoldable pub hourAfter : Hour → Interval → Hour
+hourAfter h v = standingAt h (standingAfter (h .market) (h .standing) v)
+
+abbrev pub hourVerdicts : Hour → Interval → List Verdict
+hourVerdicts h v = callVerdicts (h .market) (h .standing) v
 
 -- the hour as a list of calls leaves it: "Each call gets the hour as the call before it left it"
 unfoldable pub hourAfterAll : Hour → List Interval → Hour

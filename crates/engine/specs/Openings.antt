@@ -2,11 +2,11 @@
 use Prim.Native.Nat.{ℕ, zero, suc}
 use Rattle.opening.specs.Openings.{openingRefusal, marketOf, rowsOf}
 use Rattle.opening.specs.declared.Opening.{Opening}
-use Rattle.engine.specs.Hours.{blankHour}
+use Rattle.engine.specs.Hours.{freshStanding, blankHour}
 use Rattle.engine.specs.declared.Hour.{Hour}
 
 unfoldable pub freshHour : Opening → Hour
-freshHour o = record { accepted = 0; market = marketOf o; rows = rowsOf o }
+freshHour o = record { market = marketOf o; rows = rowsOf o; standing = freshStanding }
 
 -- a refusal returns its number alone: the hour is blank
 abbrev pub hourUnless : ℕ → Hour → Hour

@@ -9,8 +9,9 @@ use Rattle.number.specs.Order.{inRange}
 use Rattle.number.specs.Over.{listed, padded, upTo}
 use Rattle.interval.specs.Intervals.{cell}
 use Rattle.engine.specs.Cuts.{cutBy}
-use Rattle.engine.specs.Hours.{cutRow}
-use Rattle.resource.specs.declared.Row.{Row}
+use Rattle.engine.specs.Hours.{cutFloor}
+use Rattle.engine.specs.declared.Floor.{Floor}
+use Rattle.engine.specs.declared.Standing.{Standing}
 use Rattle.path.specs.declared.Verdict.{Verdict}
 use Rattle.path.specs.declared.Finding.{Finding}
 use Rattle.path.specs.declared.Finding.the-variants.{Competitive, NonCompetitive, NotBinding}
@@ -55,6 +56,10 @@ pub record Cuttable (m : ℕ) (shadow : List ℤ) (n : ℕ) (lmp factors : List 
   pub factor-in : (r c : ℕ) → r < n → c < m → inRange (negℤ (pos 1000000)) (pos 1000000) (cell factors (r * 32 + c)) ≡ true
   pub parameter-in : inRange (pos 0) (pos 100) parameter ≡ true
 
--- the first n rows, each after its cut
-unfoldable pub cutRows : List ℤ → List ℤ → List ℤ → ℤ → List ℤ → ℕ → ℕ → List Row → List Row
-cutRows lmp dispatch factors parameter weights m n rows = upTo (λ r x. cutRow (cutBy (cell dispatch r) (cell lmp r) (weighed factors weights r m) parameter) x) 0 n rows
+-- the floor prices of the first n resources, each after its cut
+unfoldable pub cutFloors : List ℤ → List ℤ → List ℤ → ℤ → List ℤ → ℕ → ℕ → List Floor → List Floor
+cutFloors lmp dispatch factors parameter weights m n floors = upTo (λ r x. cutFloor (cutBy (cell dispatch r) (cell lmp r) (weighed factors weights r m) parameter) x) 0 n floors
+
+-- the standing with these floor prices, and one more interval accepted
+abbrev pub cutStanding : Standing → List Floor → Standing
+cutStanding s floors = record { accepted = s .accepted + 1; floors = floors }

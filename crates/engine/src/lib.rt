@@ -1,16 +1,17 @@
 // Opening an hour and taking its intervals (paper 01, Interval and hour; 31.2.3, 34.1.5; Refused, by place: 9 to 16).
 // The contracts cite specs/Openings, specs/Hours, specs/Cuts and specs/Weights.
 ghost use mathlib.Core.Path.{_≡_};
-ghost use Prim.Native.Nat.{_≤_};
+ghost use Prim.Native.Nat.{_≤_, _<_};
 ghost use lib.IntN.{natAbs};
-ghost use lib.ListN.{length};
+ghost use lib.ListN.{length, replicate};
 ghost use Rattle.curve.specs.Refusals.{outcomeNumber};
+ghost use Rattle.path.specs.Verdicts.{notBinding};
 ghost use Rattle.engine.specs.Cuts.{cutBy};
 ghost use Rattle.engine.specs.Weights as Weights;
-ghost use Rattle.engine.specs.Weights.{weightsOf, weighed, Weighable, Cuttable, cutRows};
+ghost use Rattle.engine.specs.Weights.{weightsOf, weighed, Weighable, Cuttable, cutFloors, cutStanding};
 ghost use Rattle.opening.specs.Openings.{openingRefusal};
 ghost use Rattle.engine.specs.Openings.{openedHour};
-ghost use Rattle.engine.specs.Hours.{blankHour, cutRow, rowCurve, curveIn, hourRefusal, hourAfter, hourVerdicts};
+ghost use Rattle.engine.specs.Hours.{freshStanding, blankHour, cutFloor, rowCurve, curveIn, callRefusal, standingAfter, callVerdicts, hourRefusal, hourAfter, hourVerdicts};
 use curve::Curve;
 use curve::Outcome;
 use curve::Refusal;
@@ -23,11 +24,22 @@ use path::Market;
 use path::Verdict;
 use resource::Row;
 
-// An hour: how many intervals it has accepted, who owns what, and its resources.
-pub struct Hour {
+// The lowest floor price of the accepted intervals that cut a resource.
+pub struct Floor {
+    pub price: FloorPrice,
+}
+
+// What intervals change of an hour: how many it has accepted, and the floor price of each resource.
+pub struct Standing {
     pub accepted: u64,
+    pub floors: [Floor; Hour::MAX_RESOURCES],
+}
+
+// An hour: who owns what, its resources, and its standing.
+pub struct Hour {
     pub market: Market,
     pub rows: [Row; Hour::MAX_RESOURCES],
+    pub standing: Standing,
 }
 
 impl Hour {
@@ -46,6 +58,13 @@ pub struct Opened {
 pub struct Answer {
     pub outcome: Outcome,
     pub hour: Hour,
+    pub verdicts: [Verdict; Interval::MAX_CONSTRAINTS],
+}
+
+// The same of the standing alone.
+pub struct Taken {
+    pub outcome: Outcome,
+    pub standing: Standing,
     pub verdicts: [Verdict; Interval::MAX_CONSTRAINTS],
 }
 
@@ -109,28 +128,24 @@ fn cut_by(dispatch: i64, lmp: i64, component: i64, parameter: i64) -> FloorPrice
     FloorPrice::Cut(competitive + parameter)
 }
 
-// The row after a cut.
-fn cut_row(row: Row, cut: FloorPrice) -> Row
-    ensures { λ r. ⌜ r ≡ cutRow cut row ⌝ }
+// The floor price after a cut.
+fn cut_floor(floor: Floor, cut: FloorPrice) -> Floor
+    ensures { λ r. ⌜ r ≡ cutFloor cut floor ⌝ }
 {
-    let bid = row.bid;
-    let default = row.default;
-    let floor = row.floor;
-    Row {
-        bid: bid,
-        default: default,
-        floor: floor.lowered(cut),
+    let price = floor.price;
+    Floor {
+        price: price.lowered(cut),
     }
 }
 
-// The present curve of a row.
-pub fn row_curve(row: Row) -> Mitigated
-    ensures { λ r. ⌜ r ≡ rowCurve row ⌝ }
+// The present curve of a row with this floor price.
+pub fn row_curve(row: Row, floor: Floor) -> Mitigated
+    ensures { λ r. ⌜ r ≡ rowCurve row floor ⌝ }
 {
     let bid = row.bid;
     let default = row.default;
-    let floor = row.floor;
-    Mitigated::of(bid, default, floor)
+    let price = floor.price;
+    Mitigated::of(bid, default, price)
 }
 
 impl Hour {
@@ -139,13 +154,13 @@ impl Hour {
         ensures { λ r. ⌜ r ≡ blankHour ⌝ }
     {
         Hour {
-            accepted: 0,
             market: Market {
                 resources: 0,
                 portfolio: [0; Hour::MAX_RESOURCES],
                 seller: [0; Market::MAX_PORTFOLIOS],
             },
             rows: [Row::blank(); Hour::MAX_RESOURCES],
+            standing: Standing::fresh(),
         }
     }
 
@@ -161,9 +176,9 @@ impl Hour {
         Opened {
             outcome: outcome,
             hour: Hour {
-                accepted: 0,
                 market: market,
                 rows: rows,
+                standing: Standing::fresh(),
             },
         }
     }
@@ -172,9 +187,11 @@ impl Hour {
     pub fn curve(self, r: usize) -> Mitigated
         ensures { λ x. ⌜ x ≡ curveIn self r ⌝ }
     {
+        let standing = self.standing;
         if r < Hour::MAX_RESOURCES {
             let row = self.rows[r];
-            row_curve(row)
+            let floor = standing.floors[r];
+            row_curve(row, floor)
         } else {
             Mitigated::of(Curve::blank(), Curve::blank(), FloorPrice::Uncut)
         }
@@ -186,15 +203,59 @@ impl Hour {
         ensures hour { λ r. ⌜ r .hour ≡ hourAfter self v ⌝ }
         ensures verdicts { λ r. ⌜ r .verdicts ≡ hourVerdicts self v ⌝ }
     {
+        let market = self.market;
+        let rows = self.rows;
+        let standing = self.standing;
+        let taken = standing.taken(market, v);
+        let outcome = taken.outcome;
+        let verdicts = taken.verdicts;
+        let left = taken.standing;
+        Answer {
+            outcome: outcome,
+            hour: Hour {
+                market: market,
+                rows: rows,
+                standing: left,
+            },
+            verdicts: verdicts,
+        }
+    }
+}
+
+// A refusal returns its number alone: the standing as it was, and no verdicts.
+fn refused(outcome: Outcome, standing: Standing) -> Taken
+    ensures { λ r. ⌜ (r .outcome ≡ outcome) × ((r .standing ≡ standing) × (r .verdicts ≡ replicate 32 notBinding)) ⌝ }
+{
+    Taken {
+        outcome: outcome,
+        standing: standing,
+        verdicts: [Verdict::not_binding(); Interval::MAX_CONSTRAINTS],
+    }
+}
+
+impl Standing {
+    // The standing of a freshly opened hour.
+    pub fn fresh() -> Standing
+        ensures { λ r. ⌜ r ≡ freshStanding ⌝ }
+    {
+        Standing {
+            accepted: 0,
+            floors: [Floor {
+                price: FloorPrice::Uncut,
+            }; Hour::MAX_RESOURCES],
+        }
+    }
+
+    // An interval taken in an hour of this market: the next standing and the verdicts, or the lowest of refusals 12 to 16 that applies and the standing as it was.
+    pub fn taken(self, market: Market, v: Interval) -> Taken
+        ensures number { λ r. ⌜ outcomeNumber (r .outcome) ≡ callRefusal market self v ⌝ }
+        ensures standing { λ r. ⌜ r .standing ≡ standingAfter market self v ⌝ }
+        ensures verdicts { λ r. ⌜ r .verdicts ≡ callVerdicts market self v ⌝ }
+    {
         let accepted = self.accepted;
         if Hour::MAX_INTERVALS <= accepted {
-            return Answer {
-                outcome: Outcome::Refused(Refusal::HourFull),
-                hour: self,
-                verdicts: [Verdict::not_binding(); Interval::MAX_CONSTRAINTS],
-            };
+            return refused(Outcome::Refused(Refusal::HourFull), self);
         }
-        let market = self.market;
         let parameter = v.parameter;
         let judged = market.judged(
             v.constraints,
@@ -208,60 +269,53 @@ impl Hour {
             parameter,
         );
         let outcome = judged.outcome;
-        let verdicts = judged.verdicts;
         let Outcome::Accepted = outcome else {
-            return Answer {
-                outcome: outcome,
-                hour: self,
-                verdicts: verdicts,
-            };
+            return refused(outcome, self);
         };
-        let rows = self.rows;
-        Answer {
+        let verdicts = judged.verdicts;
+        Taken {
             outcome: outcome,
-            hour: Hour {
-                accepted: accepted + 1,
-                market: market,
-                rows: cut_rows(
-                    rows,
-                    verdicts,
-                    v.constraints,
-                    &v.shadow,
-                    v.resources,
-                    &v.lmp,
-                    &v.dispatch,
-                    &v.factors,
-                    parameter,
-                ),
-            },
+            standing: self.cut(
+                verdicts,
+                v.constraints,
+                &v.shadow,
+                v.resources,
+                &v.lmp,
+                &v.dispatch,
+                &v.factors,
+                parameter,
+            ),
             verdicts: verdicts,
         }
     }
-}
 
-// The rows of an hour after an interval of these values that it accepts.
-fn cut_rows<'a>(
-    rows: [Row; Hour::MAX_RESOURCES],
-    verdicts: [Verdict; Interval::MAX_CONSTRAINTS],
-    constraints: usize,
-    shadow: &'a [i64; Interval::MAX_CONSTRAINTS],
-    resources: usize,
-    lmp: &'a [i64; Interval::MAX_RESOURCES],
-    dispatch: &'a [i64; Interval::MAX_RESOURCES],
-    factors: &'a [i64; Interval::MAX_FACTORS],
-    parameter: i64,
-) -> [Row; Hour::MAX_RESOURCES]
-    requires { ⌜ Cuttable constraints (now shadow) resources (now lmp) (now factors) parameter ⌝ }
-    ensures { λ r. ⌜ r ≡ cutRows (now (lmp .entry)) (now (dispatch .entry)) (now (factors .entry)) parameter (weightsOf (now (shadow .entry)) verdicts constraints) constraints resources rows ⌝ }
-{
-    let weights = weights_of(shadow, verdicts, constraints);
-    let mut next = rows;
-    let mut r: usize = 0;
-    while r < resources {
-        let row = next[r];
-        let component = component_of(factors, &weights, r, constraints);
-        next[r] = cut_row(row, cut_by(dispatch[r], lmp[r], component, parameter));
-        r += 1;
+    // The standing after an interval of these values, which the hour accepts, and its verdicts.
+    fn cut<'a>(
+        self,
+        verdicts: [Verdict; Interval::MAX_CONSTRAINTS],
+        constraints: usize,
+        shadow: &'a [i64; Interval::MAX_CONSTRAINTS],
+        resources: usize,
+        lmp: &'a [i64; Interval::MAX_RESOURCES],
+        dispatch: &'a [i64; Interval::MAX_RESOURCES],
+        factors: &'a [i64; Interval::MAX_FACTORS],
+        parameter: i64,
+    ) -> Standing
+        requires { ⌜ (self .accepted < 4) × Cuttable constraints (now shadow) resources (now lmp) (now factors) parameter ⌝ }
+        ensures { λ r. ⌜ r ≡ cutStanding self (cutFloors (now (lmp .entry)) (now (dispatch .entry)) (now (factors .entry)) parameter (weightsOf (now (shadow .entry)) verdicts constraints) constraints resources (self .floors)) ⌝ }
+    {
+        let weights = weights_of(shadow, verdicts, constraints);
+        let mut floors = self.floors;
+        let mut r: usize = 0;
+        while r < resources {
+            let floor = floors[r];
+            let component = component_of(factors, &weights, r, constraints);
+            floors[r] = cut_floor(floor, cut_by(dispatch[r], lmp[r], component, parameter));
+            r += 1;
+        }
+        Standing {
+            accepted: self.accepted + 1,
+            floors,
+        }
     }
-    next
 }

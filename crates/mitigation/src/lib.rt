@@ -77,18 +77,12 @@ impl Mitigated {
             } else {
                 let price = cap(floor, b.price, d.price);
                 if d.end < b.end {
-                    steps[n] = Step {
-                        end: d.end,
-                        price: price,
-                    };
+                    steps[n] = Step { end: d.end, price };
                     at = d.end;
                     j += 1;
                     n += 1;
                 } else {
-                    steps[n] = Step {
-                        end: b.end,
-                        price: price,
-                    };
+                    steps[n] = Step { end: b.end, price };
                     at = b.end;
                     i += 1;
                     n += 1;

@@ -1,9 +1,9 @@
 -- Pages and refusals worked through, by computation on the definitions (paper 01, Text).
 use mathlib.Core.List.{List, [], _∷_, _++_, map}
 use mathlib.Core.Path.{_≡_, refl, ap, _∙_}
-use Prim.Native.Nat.{ℕ}
+use Prim.Native.Nat.{ℕ, min}
 use lib.IntN.{pos}
-use lib.ListN.{take, replicate}
+use lib.ListN.{replicate}
 use Rattle.number.specs.Order.{inRange}
 use Rattle.number.specs.Over.{sumTo, allTo, highestTo, listed, those, sumOver, padded, upTo}
 use Rattle.curve.specs.Refusals.{eachTo}
@@ -18,14 +18,14 @@ use Rattle.path.specs.declared.Finding.{Finding}
 use Rattle.path.specs.declared.Finding.the-variants.{Competitive, NonCompetitive, NotBinding}
 use Rattle.path.specs.declared.Verdict.{Verdict}
 use Rattle.engine.specs.Cuts.{entering, component, cutBy, cutOf}
-use Rattle.engine.specs.Hours.{blankHour, curveIn, nextHour, hourRefusal, hourAfter, hourVerdicts}
+use Rattle.engine.specs.Hours.{freshStanding, blankHour, curveIn, nextStanding, callRefusal, standingAfter, callVerdicts, hourAfter, hourVerdicts}
 use Rattle.opening.specs.Openings.{sellersGood, ownersGood, openingRefusal, marketOf}
 use Rattle.engine.specs.Openings.{freshHour, openedHour}
 use Rattle.engine.specs.declared.Hour.{Hour}
 use Rattle.engine.proofs.CaseT.{openingT, intervalT}
 use Rattle.text.specs.Numbers.{Row, bytes}
 use Rattle.print.specs.Printing.{digits, decimal, lineText, groupText, tableText, refusalText}
-use Rattle.page.specs.Pages.{shown, stepRow, sellersNamed, curveRows, verdictNames, sellerNames, curveNames, verdictTable, sellerTable, curveTable, pageText}
+use Rattle.page.specs.Pages.{shown, stepRow, sellersNamed, curveRows, verdictNames, sellerNames, curveNames, verdictTable, sellerTable, curveTable, pageText, verdictText, curveText}
 use Rattle.resource.specs.Resources.{liesInside, resourceRefusal, rowOf}
 
 -- ---- case T
@@ -43,23 +43,23 @@ unfolding inRange sumTo allTo highestTo listed those sumOver padded upTo eachTo 
     mwSuits mwGood heatGood chargesInRange pricesInRange ratesGood costRefusal
     allWithin factorsGood outputsGood intervalRefusal
     demand supply share withholdable offer offers largest top total mask amountOf sellers named left isNonCompetitive verdictOf verdictsOf
-    entering component cutBy cutOf blankHour curveIn nextHour hourRefusal hourAfter hourVerdicts
+    entering component cutBy cutOf freshStanding blankHour curveIn nextStanding callRefusal standingAfter callVerdicts hourAfter
     sellersGood ownersGood liesInside resourceRefusal openingRefusal rowOf marketOf freshHour openedHour
 verdicts-are = refl
 
-curves-are : map curveRows (take (hourT .market .resources) (hourT .rows)) ≡ map stepRow (stepTo 15000 (pos 300000) ∷ stepTo 20000 (pos 378402) ∷ stepTo 30000 (pos 488402) ∷ []) ∷ []
+curves-are : map (curveRows (hourT .rows) (hourT .standing .floors)) (listed (λ r. r) (min (hourT .market .resources) 64)) ≡ map stepRow (stepTo 15000 (pos 300000) ∷ stepTo 20000 (pos 378402) ∷ stepTo 30000 (pos 488402) ∷ []) ∷ []
 unfolding inRange sumTo allTo highestTo listed those sumOver padded upTo eachTo priceAt chain curveRefusal curveOf segmentsN joined joinedAfter mitigated
     width unlimited incrementalRate fuel greenhouse feePart stepCost withAdder rateAt largestRate stepPrice raisedPrice costCurve
     mwSuits mwGood heatGood chargesInRange pricesInRange ratesGood costRefusal
     allWithin factorsGood outputsGood intervalRefusal
     demand supply share withholdable offer offers largest top total mask amountOf sellers named left isNonCompetitive verdictOf verdictsOf
-    entering component cutBy cutOf blankHour curveIn nextHour hourRefusal hourAfter hourVerdicts
+    entering component cutBy cutOf freshStanding blankHour curveIn nextStanding callRefusal standingAfter callVerdicts hourAfter
     sellersGood ownersGood liesInside resourceRefusal openingRefusal rowOf marketOf freshHour openedHour
 curves-are = refl
 
 -- the page of an hour with these rows
 abbrev pageOf : List Verdict → List (List Row) → List ℕ
-pageOf verdicts curves = verdictNames ++ (verdictTable 1 1 verdicts ++ (sellerNames ++ (sellerTable 1 1 verdicts ++ (curveNames ++ tableText 1 0 curves))))
+pageOf verdicts curves = (verdictNames ++ (verdictTable 1 1 verdicts ++ (sellerNames ++ sellerTable 1 1 verdicts))) ++ (curveNames ++ tableText 1 0 curves)
 
 printed : pageOf verdictsT (map stepRow (stepTo 15000 (pos 300000) ∷ stepTo 20000 (pos 378402) ∷ stepTo 30000 (pos 488402) ∷ []) ∷ [])
     ≡ bytes "interval constraint verdict demand left\n1 0 1 10000000000 0\ninterval constraint portfolio withheld\n1 0 0 15000000000\ninterval resource end price\n1 0 15000 300000\n1 0 20000 378402\n1 0 30000 488402\n"
@@ -67,11 +67,11 @@ unfolding padded those isNamed digits decimal lineText groupText tableText shown
 printed = refl
 
 -- "It prints, whole"
-pub case-T : pageText 1 hourT 1 (hourVerdicts (openedHour openingT) intervalT)
+pub case-T : pageText 1 (hourT .market .resources) (hourT .rows) (hourT .standing .floors) 1 (hourVerdicts (openedHour openingT) intervalT)
     ≡ bytes "interval constraint verdict demand left\n1 0 1 10000000000 0\ninterval constraint portfolio withheld\n1 0 0 15000000000\ninterval resource end price\n1 0 15000 300000\n1 0 20000 378402\n1 0 30000 488402\n"
-unfolding pageText curveTable
+unfolding verdictText curveText curveTable
 case-T =
-    ap (λ (v : List Verdict). pageOf v (map curveRows (take (hourT .market .resources) (hourT .rows)))) verdicts-are
+    ap (λ (v : List Verdict). pageOf v (map (curveRows (hourT .rows) (hourT .standing .floors)) (listed (λ r. r) (min (hourT .market .resources) 64)))) verdicts-are
     ∙ ap (pageOf verdictsT) curves-are ∙ printed
 
 -- ---- three constraints: competitive with two sellers named, not binding, and non-competitive with none

@@ -1,19 +1,17 @@
 -- What specs/Pages prints is what the engine holds: an engine's verdict is shown as it is, a quantity of 63 bits too, and each resource by its present curve. Assumes nothing.
-use Prim.Native.Nat.{ℕ, _≤_}
-use mathlib.Core.Path.{_≡_, refl, ap, _∙_}
+use Prim.Native.Nat.{ℕ, _≤_, min}
+use mathlib.Core.Path.{_≡_, refl}
 use mathlib.Core.Bool.{Bool, true, false}
 use mathlib.Core.List.{map}
 use native.Mathlib.Omega.{arith}
-use lib.ListN.{length, take, length-map, List·getD-map}
 use Rattle.number.specs.Over.{listed}
-use Rattle.number.proofs.OverLaws.{taken-at}
-use Rattle.number.proofs.ListedLaws.{listed-is}
 use Rattle.mitigation.specs.Mitigation.{usedSteps}
 use Rattle.path.specs.Paths.{Path, binds, isNonCompetitive}
 use Rattle.path.specs.Verdicts.{verdictOf}
-use Rattle.engine.specs.Hours.{noRow, curveIn}
+use Rattle.engine.specs.Hours.{curveIn}
 use Rattle.engine.specs.declared.Hour.{Hour}
-use Rattle.page.specs.Pages.{printable, shown, stepRow, curveRows}
+use Rattle.print.specs.Printing.{tableText}
+use Rattle.page.specs.Pages.{printable, shown, stepRow, curveTable}
 
 -- a quantity of 63 bits is printed as it is
 pub same-quantity : (n : ℕ) → n ≤ 9223372036854775807 → printable n ≡ n
@@ -30,8 +28,7 @@ same-verdict d = go (binds d) (isNonCompetitive d) refl refl
     go false n e f = rw e
 
 -- the curves of a page are the present curves of the hour's resources, in order
-pub same-curves : (h : Hour) (n : ℕ) → map curveRows (take n (h .rows)) ≡ listed (λ r. map stepRow (usedSteps (curveIn h r))) (length (take n (h .rows)))
-unfolding curveIn
-same-curves h n =
-    listed-is (curveRows noRow) (map curveRows (take n (h .rows))) (λ r. map stepRow (usedSteps (curveIn h r))) (length (take n (h .rows))) (length-map (take n (h .rows)) curveRows)
-    (λ q l. List·getD-map curveRows (take n (h .rows)) q noRow ∙ ap curveRows (taken-at n (h .rows) q noRow l))
+pub same-curves : (i : ℕ) (h : Hour) → curveTable i (h .market .resources) (h .rows) (h .standing .floors)
+    ≡ tableText (printable i) 0 (map (λ r. map stepRow (usedSteps (curveIn h r))) (listed (λ r. r) (min (h .market .resources) 64)))
+unfolding curveTable curveIn
+same-curves i h = refl

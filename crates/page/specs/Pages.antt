@@ -7,16 +7,16 @@ use lib.ListN.{length, take, getD}
 use lib.Seq.{sets}
 use lib.Dec.{leb}
 use lib.IntN.{pos}
-use Rattle.number.specs.Over.{those}
+use Rattle.number.specs.Over.{listed, those}
 use Rattle.curve.specs.declared.Step.{Step}
 use Rattle.mitigation.specs.Mitigation.{usedSteps}
 use Rattle.path.specs.Verdicts.{findingNumber, notBinding, isNamed}
 use Rattle.path.specs.declared.Finding.{Finding}
 use Rattle.path.specs.declared.Finding.the-variants.{Competitive, NonCompetitive, NotBinding}
 use Rattle.path.specs.declared.Verdict.{Verdict}
-use Rattle.engine.specs.Hours.{rowCurve}
+use Rattle.engine.specs.Hours.{uncut, noRow, rowCurve}
 use Rattle.resource.specs.declared.Row as engine
-use Rattle.engine.specs.declared.Hour.{Hour}
+use Rattle.engine.specs.declared.Floor.{Floor}
 use Rattle.text.specs.Numbers.{Row, bytes}
 use Rattle.print.specs.Printing.{tableText}
 use Rattle.print.specs.declared.Printed.{Printed}
@@ -61,9 +61,9 @@ sellerRows v = sellersNamed (shown v)
 abbrev pub stepRow : Step → Row
 stepRow s = pos (printable (s .end)) ∷ s .price ∷ []
 
--- the steps of a resource's present curve
-abbrev pub curveRows : engine.Row → List Row
-curveRows x = map stepRow (usedSteps (rowCurve x))
+-- the steps of resource r's present curve
+abbrev pub curveRows : List engine.Row → List Floor → ℕ → List Row
+curveRows rows floors r = map stepRow (usedSteps (rowCurve (getD rows r noRow) (getD floors r uncut)))
 
 -- ---- "Each accepted interval, counted from 1, prints its three tables, names lines included"
 abbrev pub verdictNames : List ℕ
@@ -83,21 +83,30 @@ verdictTable i n verdicts = tableText (printable i) 0 (map verdictRows (take n v
 unfoldable pub sellerTable : ℕ → ℕ → List Verdict → List ℕ
 sellerTable i n verdicts = tableText (printable i) 0 (map sellerRows (take n verdicts))
 
--- the curves of the first n resources
-unfoldable pub curveTable : ℕ → ℕ → List engine.Row → List ℕ
-curveTable i n rows = tableText (printable i) 0 (map curveRows (take n rows))
+-- the curves of n resources, of which an hour has at most 64
+unfoldable pub curveTable : ℕ → ℕ → List engine.Row → List Floor → List ℕ
+curveTable i n rows floors = tableText (printable i) 0 (map (curveRows rows floors) (listed (λ r. r) (min n 64)))
 
--- the page of interval i, with n constraints, that leaves this hour
-unfoldable pub pageText : ℕ → Hour → ℕ → List Verdict → List ℕ
-pageText i h n verdicts =
-    verdictNames ++ (verdictTable i n verdicts
-    ++ (sellerNames ++ (sellerTable i n verdicts
-    ++ (curveNames ++ curveTable i (h .market .resources) (h .rows)))))
+-- what interval i prints of its m constraints
+unfoldable pub verdictText : ℕ → ℕ → List Verdict → List ℕ
+verdictText i m verdicts = verdictNames ++ (verdictTable i m verdicts ++ (sellerNames ++ sellerTable i m verdicts))
+
+-- and of an hour of n resources that it leaves with these floor prices
+unfoldable pub curveText : ℕ → ℕ → List engine.Row → List Floor → List ℕ
+curveText i n rows floors = curveNames ++ curveTable i n rows floors
+
+-- the page of an interval
+abbrev pub pageText : ℕ → ℕ → List engine.Row → List Floor → ℕ → List Verdict → List ℕ
+pageText i n rows floors m verdicts = verdictText i m verdicts ++ curveText i n rows floors
 
 -- ---- a text put into a buffer at an offset
--- a page is put where at least so many bytes are left: 32 verdicts of up to 105 bytes, each with up to 16 sellers of 84, and 64 curves of up to 19 steps of 84, with the names lines, take 148,619 at most
-abbrev pub pageRoom : ℕ
-pageRoom = 163840
+-- verdicts are put where at least so many bytes are left: 32 of up to 105 bytes, each with up to 16 sellers of 84, take 46,447 at most with their names lines
+abbrev pub verdictRoom : ℕ
+verdictRoom = 49152
+
+-- curves are: 64 of up to 19 steps of 84 bytes take 102,172 at most with their names line
+abbrev pub curveRoom : ℕ
+curveRoom = 114688
 
 -- the lines of a refusal take 55 at most
 abbrev pub refusalRoom : ℕ

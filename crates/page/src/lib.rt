@@ -1,4 +1,5 @@
 // The page of an accepted interval and the lines of a refusal (paper 01, Text), put into a lent buffer at an offset. The contracts cite specs/Pages.
+use engine::Floor;
 use engine::Hour;
 use interval::Interval;
 use mitigation::Mitigated;
@@ -18,10 +19,13 @@ ghost use Rattle.mitigation.specs.Mitigation.{usedSteps};
 ghost use Rattle.print.specs.Printing.{lineText, groupText, refusalText};
 ghost use Rattle.page.specs.Pages.{printable as printableOf};
 ghost use Rattle.page.specs.Pages.{shown as shownOf};
-ghost use Rattle.page.specs.Pages.{stepRow, verdictRow, sellersNamed, verdictTable, sellerTable, curveTable, pageText, Put, pageRoom, refusalRoom, putWithin, putWithinTo};
+ghost use Rattle.page.specs.Pages.{stepRow, verdictRow, sellersNamed, verdictTable, sellerTable, curveTable, verdictText, curveText, Put, verdictRoom, curveRoom, refusalRoom, putWithin, putWithinTo};
 
-// A page is put where at least this many bytes are left.
-pub const PAGE_ROOM: usize = 163_840;
+// Verdicts and the sellers named are put where at least this many bytes are left.
+pub const VERDICT_ROOM: usize = 49_152;
+
+// Curves are put where at least this many bytes are left.
+pub const CURVE_ROOM: usize = 114_688;
 
 // The lines of a refusal are put where at least this many bytes are left.
 pub const REFUSAL_ROOM: usize = 64;
@@ -183,43 +187,68 @@ fn put_sellers(
 }
 
 // Puts the curves of an hour's resources, a line for each step, and answers the offset after them.
-fn put_curves(out: &mut [u8], at: usize, i: u64, hour: Hour) -> usize
+fn put_curves(
+    out: &mut [u8],
+    at: usize,
+    i: u64,
+    resources: usize,
+    rows: [Row; Hour::MAX_RESOURCES],
+    floors: [Floor; Hour::MAX_RESOURCES],
+) -> usize
     requires { ⌜ at + 102144 ≤ length (now out) ⌝ }
-    ensures { λ q. ⌜ Put 102144 (now (out .entry)) at (curveTable i (hour .market .resources) (hour .rows)) (now (out .exit)) q ⌝ }
+    ensures { λ q. ⌜ Put 102144 (now (out .entry)) at (curveTable i resources rows floors) (now (out .exit)) q ⌝ }
 {
-    let n = at_most(hour.market.resources, Hour::MAX_RESOURCES);
+    let n = at_most(resources, Hour::MAX_RESOURCES);
     let mut p = at;
     let mut r: usize = 0;
     while r < n {
-        let row = hour.rows[r];
-        p = put_steps(out, p, i, r as u64, engine::row_curve(row));
+        let row = rows[r];
+        let floor = floors[r];
+        p = put_steps(out, p, i, r as u64, engine::row_curve(row, floor));
         r += 1;
     }
     p
 }
 
-// Prints the page of interval i, which has this many constraints and leaves this hour: its three tables, where there is room.
-pub fn print_page(
+// Prints what interval i says of this many constraints, its verdicts and the sellers named, where there is room.
+pub fn print_verdicts(
     out: &mut [u8],
     at: usize,
     i: u64,
-    hour: Hour,
     constraints: usize,
     verdicts: [Verdict; Interval::MAX_CONSTRAINTS],
 ) -> Printed
-    ensures buffer { λ r. ⌜ now (out .exit) ≡ putWithin pageRoom (now (out .entry)) at (pageText i hour constraints verdicts) ⌝ }
-    ensures next { λ r. ⌜ r ≡ putWithinTo pageRoom (now (out .entry)) at (pageText i hour constraints verdicts) ⌝ }
-    ensures whole { λ r. ⌜ (at + pageRoom ≤ length (now (out .entry)) → length (pageText i hour constraints verdicts) ≤ pageRoom) ⌝ }
+    ensures buffer { λ r. ⌜ now (out .exit) ≡ putWithin verdictRoom (now (out .entry)) at (verdictText i constraints verdicts) ⌝ }
+    ensures next { λ r. ⌜ r ≡ putWithinTo verdictRoom (now (out .entry)) at (verdictText i constraints verdicts) ⌝ }
+    ensures whole { λ r. ⌜ (at + verdictRoom ≤ length (now (out .entry)) → length (verdictText i constraints verdicts) ≤ verdictRoom) ⌝ }
 {
-    if !has_room(out.len(), at, PAGE_ROOM) {
+    if !has_room(out.len(), at, VERDICT_ROOM) {
         return Printed::Full;
     }
     let a = put_names(out, at, b"interval constraint verdict demand left\n");
     let b = put_verdicts(out, a, i, constraints, verdicts);
     let c = put_names(out, b, b"interval constraint portfolio withheld\n");
-    let d = put_sellers(out, c, i, constraints, verdicts);
-    let e = put_names(out, d, b"interval resource end price\n");
-    Printed::To(put_curves(out, e, i, hour))
+    Printed::To(put_sellers(out, c, i, constraints, verdicts))
+}
+
+// Prints the curves of an hour of this many resources that interval i leaves with these floor prices, where there is room.
+pub fn print_curves(
+    out: &mut [u8],
+    at: usize,
+    i: u64,
+    resources: usize,
+    rows: [Row; Hour::MAX_RESOURCES],
+    floors: [Floor; Hour::MAX_RESOURCES],
+) -> Printed
+    ensures buffer { λ r. ⌜ now (out .exit) ≡ putWithin curveRoom (now (out .entry)) at (curveText i resources rows floors) ⌝ }
+    ensures next { λ r. ⌜ r ≡ putWithinTo curveRoom (now (out .entry)) at (curveText i resources rows floors) ⌝ }
+    ensures whole { λ r. ⌜ (at + curveRoom ≤ length (now (out .entry)) → length (curveText i resources rows floors) ≤ curveRoom) ⌝ }
+{
+    if !has_room(out.len(), at, CURVE_ROOM) {
+        return Printed::Full;
+    }
+    let next = put_names(out, at, b"interval resource end price\n");
+    Printed::To(put_curves(out, next, i, resources, rows, floors))
 }
 
 // Prints the lines of a refusal, its number and its line, where there is room.

@@ -5,7 +5,6 @@ use lib.Dec.{leb}
 use Rattle.curve.specs.Refusals.{unless, _then_}
 use Rattle.curve.specs.Curves.{stepsOf, endOf, curveOf, blankCurve, bidRefusal, defaultRefusal}
 use Rattle.curve.specs.declared.Curve.{Curve}
-use Rattle.mitigation.specs.declared.FloorPrice.the-variants.{Uncut}
 use Rattle.cost.specs.Costs.{costRefusal, costCurve}
 use Rattle.resource.specs.declared.Source.{Source}
 use Rattle.resource.specs.declared.Source.the-variants as source
@@ -34,13 +33,13 @@ resourceRefusal month x =
     then unless (liesInside (curveOf (x .bid)) (defaultBy (x .source) x)) 11
 
 -- ---- the row
--- a resource's row: its bid, its default curve, and no cut
+-- a resource's row: its bid and its default curve
 unfoldable pub rowOf : Resource → Row
-rowOf x = record { bid = curveOf (x .bid); default = defaultBy (x .source) x; floor = Uncut }
+rowOf x = record { bid = curveOf (x .bid); default = defaultBy (x .source) x }
 
 -- a refusal returns its number alone: the row is blank
 abbrev pub blankRow : Row
-blankRow = record { bid = blankCurve; default = blankCurve; floor = Uncut }
+blankRow = record { bid = blankCurve; default = blankCurve }
 
 abbrev pub rowUnless : ℕ → Row → Row
 rowUnless zero x = x

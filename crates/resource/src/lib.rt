@@ -6,7 +6,6 @@ use curve::Curve;
 use curve::Outcome;
 use curve::RawCurve;
 use curve::Refusal;
-use mitigation::FloorPrice;
 ghost use mathlib.Core.Path.{_≡_};
 ghost use Rattle.curve.specs.Curves.{stepsOf, endOf, unlessRefused};
 ghost use Rattle.curve.specs.Refusals.{outcomeNumber};
@@ -27,11 +26,10 @@ pub struct Resource {
     pub pack: RawCurve,
 }
 
-// A resource of an hour: its submitted bid, its default curve, and the lowest floor price of the accepted intervals that cut it.
+// A resource of an hour: its submitted bid and its default curve.
 pub struct Row {
     pub bid: Curve,
     pub default: Curve,
-    pub floor: FloorPrice,
 }
 
 // What opening a resource answers: its row, or a blank one and the refusal.
@@ -70,7 +68,6 @@ impl Row {
         Row {
             bid: Curve::blank(),
             default: Curve::blank(),
-            floor: FloorPrice::Uncut,
         }
     }
 }
@@ -126,7 +123,6 @@ impl Resource {
             row: Row {
                 bid: bid,
                 default: default,
-                floor: FloorPrice::Uncut,
             },
         }
     }

@@ -12,7 +12,7 @@ use Rattle.mitigation.specs.Mitigation.{segmentsN, joined, joinedAfter, mitigat
 use Rattle.cost.specs.Costs.{width, unlimited, incrementalRate, fuel, greenhouse, feePart, stepCost, withAdder, rateAt, largestRate, stepPrice, raisedPrice, costCurve, mwSuits, mwGood, heatGood, chargesInRange, pricesInRange, ratesGood, costRefusal}
 use Rattle.interval.specs.Intervals.{allWithin, factorsGood, outputsGood, intervalRefusal}
 use Rattle.resource.specs.Resources.{liesInside, resourceRefusal, rowOf}
-use Rattle.engine.specs.Hours.{blankHour, nextHour, hourRefusal, hourAfter}
+use Rattle.engine.specs.Hours.{freshStanding, blankHour, nextStanding, callRefusal, standingAfter, hourRefusal, hourAfter}
 use Rattle.opening.specs.Openings.{sellersGood, ownersGood, openingRefusal, marketOf}
 use Rattle.engine.specs.Openings.{freshHour, openedHour}
 use Rattle.engine.specs.declared.Hour.{Hour}
@@ -56,7 +56,7 @@ unfolding inRange sumTo allTo highestTo listed those sumOver padded upTo eachTo 
     width unlimited incrementalRate fuel greenhouse feePart stepCost withAdder rateAt largestRate stepPrice raisedPrice costCurve
     mwSuits mwGood heatGood chargesInRange pricesInRange ratesGood costRefusal
     allWithin factorsGood outputsGood intervalRefusal
-    blankHour nextHour hourRefusal hourAfter
+    freshStanding blankHour nextStanding callRefusal standingAfter hourAfter
     sellersGood ownersGood liesInside resourceRefusal openingRefusal rowOf marketOf freshHour openedHour
 accepts-interval = refl
 

@@ -49,10 +49,10 @@ pub record Going (s out whole now : List ℕ) (hour : Hour) (at line i p : ℕ) 
   pub few : p + 163840 ≤ i * 163840
   pub low : 1 ≤ i
   pub high : i ≤ 5
-  pub count : hour .accepted + 1 ≡ i
+  pub count : hour .standing .accepted + 1 ≡ i
   pub left : line + length (lines (drop at s)) ≤ 65536
 
-pub going-start : (s out : List ℕ) (hour : Hour) (at line : ℕ) → hour .accepted ≡ 0 → line + length (lines (drop at s)) ≤ 65536
+pub going-start : (s out : List ℕ) (hour : Hour) (at line : ℕ) → hour .standing .accepted ≡ 0 → line + length (lines (drop at s)) ≤ 65536
     → Going s out (hourText hour line (lines (drop at s))) out hour at line 1 0
 going-start s out hour at line e h = record {
   put = putting-start out 0 (hourText hour line (lines (drop at s)));
@@ -123,6 +123,6 @@ module _ {s out whole now : List ℕ} {hour : Hour} {at line i p : ℕ} (w : Goi
     few = omega (arith, w .few, d);
     low = omega arith;
     high = omega (arith, going-few l v m (lines (drop next s)) e g);
-    count = omega (arith, ap (λ (h : Hour). h .accepted) a, accepts-counts hour v g, w .count);
+    count = omega (arith, ap (λ (h : Hour). h .standing .accepted) a, accepts-counts hour v g, w .count);
     left = left-after l v m (lines (drop next s)) e;
   }

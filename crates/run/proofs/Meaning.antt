@@ -15,9 +15,8 @@ use Rattle.interval.specs.declared.Interval.{Interval}
 use Rattle.text.specs.Numbers.{Line, bytes, lines}
 use Rattle.text.specs.Tables.{Reading, faulty, found}
 use Rattle.print.specs.Printing.{digits, decimal, lineText, refusalText}
-use Rattle.page.specs.Pages.{pageText}
 use Rattle.parts.specs.Parts.{readInterval}
-use Rattle.run.specs.Run.{part, answer, pageOf, intervals, partsText, output}
+use Rattle.run.specs.Run.{part, answer, pageOf, intervals, partsText, output, pageLeaving}
 use Rattle.run.proofs.RunLaws.{accepted-text, accepts-few, accepts-counts}
 
 -- "18 is tested first": whatever else is wrong with a text of over 65,536 bytes
@@ -50,7 +49,7 @@ step k f i h n (l ∷ ls) same = go (readInterval n (l ∷ ls))
     go (found v m rest) = further v m rest (hourRefusal h v) refl
 
 -- "four intervals": an hour that accepts k more refuses the one after them, so that room for more parts would change nothing
-pub five-suffice : (k f i : ℕ) (h : Hour) (n : ℕ) (ls : List Line) → h .accepted + k ≡ 4 → suc k ≤ f → intervals f i h n ls ≡ intervals (suc k) i h n ls
+pub five-suffice : (k f i : ℕ) (h : Hour) (n : ℕ) (ls : List Line) → h .standing .accepted + k ≡ 4 → suc k ≤ f → intervals f i h n ls ≡ intervals (suc k) i h n ls
 five-suffice k zero i h n ls e l = absurd (omega (arith, l))
 five-suffice zero (suc f) i h n ls e l = step 0 f i h n ls (λ v m rest g. absurd (omega (arith, e, accepts-few h v g)))
 five-suffice (suc k) (suc f) i h n ls e l = step (suc k) f i h n ls (λ v m rest g. five-suffice k f (suc i) (hourAfter h v) m rest (omega (arith, e, accepts-counts h v g)) (omega (arith, l)))
@@ -66,7 +65,7 @@ after-one h (w ∷ calls) v = after-one (hourAfter h w) calls v
 pub page-of-list : (o : Opening) (calls : List Interval) (f i n : ℕ) (ls : List Line) → 0 < length ls → (v : Interval) (m : ℕ) (rest : List Line)
     → readInterval n ls ≡ found v m rest → hourRefusal (hourOf o calls) v ≡ 0
     → intervals (suc f) i (hourOf o calls) n ls
-    ≡ pageText i (hourOf o (calls ++ v ∷ [])) (v .constraints) (hourVerdicts (hourOf o calls) v) ++ intervals f (suc i) (hourOf o (calls ++ v ∷ [])) m rest
+    ≡ pageLeaving i (hourOf o (calls ++ v ∷ [])) (v .constraints) (hourVerdicts (hourOf o calls) v) ++ intervals f (suc i) (hourOf o (calls ++ v ∷ [])) m rest
 page-of-list o calls f i n ls some v m rest e g =
     accepted-text f i (hourOf o calls) n ls some v m rest e g
-    ∙ ap (λ (h : Hour). pageText i h (v .constraints) (hourVerdicts (hourOf o calls) v) ++ intervals f (suc i) h m rest) (sym (after-one (openedHour o) calls v))
+    ∙ ap (λ (h : Hour). pageLeaving i h (v .constraints) (hourVerdicts (hourOf o calls) v) ++ intervals f (suc i) h m rest) (sym (after-one (openedHour o) calls v))

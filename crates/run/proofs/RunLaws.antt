@@ -14,7 +14,7 @@ use Rattle.curve.specs.declared.Refusal.{Refusal}
 use Rattle.curve.specs.declared.Refusal.the-variants.{StepCount, Edge, Price, PointCount, Quantity, HeatRate, CostRange, IncrementalRate, Counts, Membership, OutsideDefault, HourFull, ResourceCount, ConstraintCount, IntervalRange, Output, Form, Length}
 use Rattle.curve.proofs.CheckLaws.{then-both, unless-holds}
 use Rattle.interval.specs.declared.Interval.{Interval}
-use Rattle.engine.specs.Hours.{blankHour, hourRefusal, hourAfter, nextHour, unlessRefused}
+use Rattle.engine.specs.Hours.{freshStanding, blankHour, callRefusal, nextStanding, standingUnless, standingAfter, hourRefusal, hourAfter}
 use Rattle.opening.specs.Openings.{openingRefusal}
 use Rattle.engine.specs.Openings.{freshHour, hourUnless, openedHour}
 use Rattle.engine.specs.declared.Hour.{Hour}
@@ -87,13 +87,13 @@ none-text (suc f) i h n = refl
 
 -- ---- the hour's count
 module _ (h : Hour) (v : Interval) (g : hourRefusal h v ≡ 0) where
-  pub accepts-few : h .accepted < 4
-  unfolding hourRefusal
-  accepts-few = ltb-true (h .accepted) 4 (unless-holds (ltb (h .accepted) 4) 11 (then-both _ _ g .0))
+  pub accepts-few : h .standing .accepted < 4
+  unfolding callRefusal
+  accepts-few = ltb-true (h .standing .accepted) 4 (unless-holds (ltb (h .standing .accepted) 4) 11 (then-both _ _ g .0))
 
-  pub accepts-counts : hourAfter h v .accepted ≡ h .accepted + 1
-  unfolding hourAfter nextHour
-  accepts-counts = ap (λ (n : ℕ). unlessRefused n (nextHour h v) h .accepted) g
+  pub accepts-counts : hourAfter h v .standing .accepted ≡ h .standing .accepted + 1
+  unfolding hourAfter standingAfter nextStanding
+  accepts-counts = ap (λ (n : ℕ). standingUnless n (nextStanding (h .market) (h .standing) v) (h .standing) .accepted) g
 
 pub number-few : (r : Refusal) → numberOf r ≤ 18
 number-few StepCount = omega arith
@@ -143,11 +143,11 @@ module _ (ls : List Line) where
     parts-left = omega (arith, subst (Uses 0 ls) e (opening-using 0 ls))
 
 -- an opened hour has accepted nothing
-pub opened-fresh : (o : Opening) → openedHour o .accepted ≡ 0
-unfolding openedHour freshHour blankHour
+pub opened-fresh : (o : Opening) → openedHour o .standing .accepted ≡ 0
+unfolding openedHour freshHour freshStanding blankHour
 opened-fresh o = go (openingRefusal o)
   where
-    go : (k : ℕ) → hourUnless k (freshHour o) .accepted ≡ 0
+    go : (k : ℕ) → hourUnless k (freshHour o) .standing .accepted ≡ 0
     go zero = refl
     go (suc k) = refl
 

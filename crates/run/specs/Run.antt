@@ -10,6 +10,7 @@ use Rattle.opening.specs.Openings.{openingRefusal}
 use Rattle.engine.specs.Openings.{openedHour}
 use Rattle.engine.specs.Hours.{hourRefusal, hourAfter, hourVerdicts}
 use Rattle.engine.specs.declared.Hour.{Hour}
+use Rattle.path.specs.declared.Verdict.{Verdict}
 use Rattle.text.specs.Numbers.{Line, lines}
 use Rattle.text.specs.Tables.{Reading, faulty, found}
 use Rattle.print.specs.Printing.{refusalText}
@@ -28,9 +29,13 @@ abbrev pub answer : ℕ → ℕ → List ℕ → List ℕ
 answer n zero printed = printed
 answer n (suc number) printed = refusalText (suc number) n
 
+-- the page of interval i, with m constraints, that leaves this hour
+abbrev pub pageLeaving : ℕ → Hour → ℕ → List Verdict → List ℕ
+pageLeaving i h m verdicts = pageText i (h .market .resources) (h .rows) (h .standing .floors) m verdicts
+
 -- the page of interval i on an hour
 abbrev pub pageOf : ℕ → Hour → Interval → List ℕ
-pageOf i h v = pageText i (hourAfter h v) (v .constraints) (hourVerdicts h v)
+pageOf i h v = pageLeaving i (hourAfter h v) (v .constraints) (hourVerdicts h v)
 
 -- interval i and those after it, "from none on", each printed before the next is read; at most f of them
 unfoldable pub intervals : ℕ → ℕ → Hour → ℕ → List Line → List ℕ

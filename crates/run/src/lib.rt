@@ -1,18 +1,20 @@
 // The whole run: a text in, what is printed out (paper 01, Text). The contracts cite specs/Run.
 use curve::Outcome;
+use engine::Floor;
 use engine::Hour;
 use interval::Interval;
 use opening_part::opening_at;
 use parts::intervals::interval_at;
 use path::Verdict;
 use print::Printed;
+use resource::Row;
 ghost use mathlib.Core.Path.{_≡_};
 ghost use Prim.Native.Nat.{_+_, _≤_, _<_};
 ghost use lib.ListN.{length, drop};
 ghost use lib.Seq.{sets};
 ghost use Rattle.text.specs.Numbers.{lines};
 ghost use Rattle.print.specs.Printing.{refusalText};
-ghost use Rattle.page.specs.Pages.{pageText};
+ghost use Rattle.page.specs.Pages.{verdictText, curveText};
 ghost use Rattle.run.specs.Run.{hourText, partsText, output, runRoom, ranWithin, ranTo};
 
 // How many bytes were printed, or that the lent page has less room than ROOM.
@@ -38,25 +40,43 @@ fn put_refusal(out: &mut [u8], at: usize, number: u64, line: usize) -> usize
     }
 }
 
-// Puts the page of an interval at an offset, and answers the offset after it.
-fn put_page(
+// Puts what an interval says of its constraints at an offset, and answers the offset after it.
+fn put_verdicts(
     out: &mut [u8],
     at: usize,
     i: u64,
-    hour: Hour,
     constraints: usize,
     verdicts: [Verdict; Interval::MAX_CONSTRAINTS],
 ) -> usize
-    requires { ⌜ at + 163840 ≤ length (now out) ⌝ }
-    ensures { λ r. ⌜ (now (out .exit) ≡ sets (now (out .entry)) at (pageText i hour constraints verdicts)) × ((r ≡ at + length (pageText i hour constraints verdicts)) × (r ≤ at + 163840)) ⌝ }
+    requires { ⌜ at + 49152 ≤ length (now out) ⌝ }
+    ensures { λ r. ⌜ (now (out .exit) ≡ sets (now (out .entry)) at (verdictText i constraints verdicts)) × ((r ≡ at + length (verdictText i constraints verdicts)) × (r ≤ at + 49152)) ⌝ }
 {
-    match page::print_page(out, at, i, hour, constraints, verdicts) {
+    match page::print_verdicts(out, at, i, constraints, verdicts) {
+        Printed::To(next) => next,
+        Printed::Full => at,
+    }
+}
+
+// Puts the curves that an interval leaves at an offset, and answers the offset after them.
+fn put_curves(
+    out: &mut [u8],
+    at: usize,
+    i: u64,
+    resources: usize,
+    rows: [Row; Hour::MAX_RESOURCES],
+    floors: [Floor; Hour::MAX_RESOURCES],
+) -> usize
+    requires { ⌜ at + 114688 ≤ length (now out) ⌝ }
+    ensures { λ r. ⌜ (now (out .exit) ≡ sets (now (out .entry)) at (curveText i resources rows floors)) × ((r ≡ at + length (curveText i resources rows floors)) × (r ≤ at + 114688)) ⌝ }
+{
+    match page::print_curves(out, at, i, resources, rows, floors) {
         Printed::To(next) => next,
         Printed::Full => at,
     }
 }
 
 // Puts what the intervals of a fresh hour print, from an offset of the text before which `line` lines stand: each is read, taken and printed before the next.
+// Market and rows stay as they are, and the standing alone changes.
 fn put_intervals(
     text: &[u8],
     start: usize,
@@ -64,12 +84,14 @@ fn put_intervals(
     fresh: Hour,
     out: &mut [u8],
 ) -> usize
-    requires fresh { ⌜ fresh .accepted ≡ 0 ⌝ }
+    requires fresh { ⌜ fresh .standing .accepted ≡ 0 ⌝ }
     requires room { ⌜ 655424 ≤ length (now out) ⌝ }
     requires text { ⌜ «lines_before» + length (lines (drop start (now text))) ≤ 65536 ⌝ }
     ensures { λ r. ⌜ (now (out .exit) ≡ sets (now (out .entry)) 0 (hourText fresh «lines_before» (lines (drop start (now (text .entry)))))) × ((r ≡ length (hourText fresh «lines_before» (lines (drop start (now (text .entry)))))) × (r ≤ 655424)) ⌝ }
 {
-    let mut hour = fresh;
+    let market = fresh.market;
+    let rows = fresh.rows;
+    let mut standing = fresh.standing;
     let mut at = start;
     let mut line = lines_before;
     let mut i: u64 = 1;
@@ -81,14 +103,16 @@ fn put_intervals(
             return put_refusal(out, p, 17, fault);
         }
         let v = read.interval;
-        let answer = hour.interval(v);
-        let outcome = answer.outcome;
+        let taken = standing.taken(market, v);
+        let outcome = taken.outcome;
         if let Outcome::Refused(refusal) = outcome {
             return put_refusal(out, p, refusal.number(), read.line);
         }
-        let verdicts = answer.verdicts;
-        hour = answer.hour;
-        p = put_page(out, p, i, hour, v.constraints, verdicts);
+        let verdicts = taken.verdicts;
+        standing = taken.standing;
+        let floors = standing.floors;
+        p = put_verdicts(out, p, i, v.constraints, verdicts);
+        p = put_curves(out, p, i, market.resources, rows, floors);
         at = read.next;
         line = read.line;
         i += 1;

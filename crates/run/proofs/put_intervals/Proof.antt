@@ -1,42 +1,57 @@
 -- `run::put_intervals` meets its contract. Assumes nothing.
-use Prim.Native.Nat.{ℕ, _+_, _-_, min}
+use Prim.Native.Nat.{ℕ, _+_, _-_, _≤_, min}
 use mathlib.Core.Path.{_≡_, sym, ap, ap₂, _∙_}
-use mathlib.Core.List.{List}
+use mathlib.Core.List.{List, _++_}
 use native.Mathlib.Omega.{arith}
 use borrow.Author.Needs.{needs}
-use lib.ListN.{length, drop}
+use lib.ListN.{length, drop, length-append}
 use lib.Seq.{sets, length-sets}
 use Rattle.text.specs.Numbers.{Line, lines}
 use Rattle.text.specs.Tables.{faulty, found}
 use Rattle.curve.specs.Refusals.{outcomeNumber}
 use Rattle.path.specs.declared.Verdict.{Verdict}
-use Rattle.engine.specs.Hours.{hourRefusal}
+use Rattle.path.specs.declared.Market.{Market}
+use Rattle.resource.specs.declared.Row.{Row}
+use Rattle.engine.specs.Hours.{standingAt, hourRefusal, hourAfter}
+use Rattle.engine.specs.declared.Standing.{Standing}
 use Rattle.engine.specs.declared.Hour.{Hour}
 use Rattle.print.specs.Printing.{refusalText}
 use Rattle.parts.specs.Parts.{readInterval}
 use Rattle.parts.specs.Shown.{reading}
 use Rattle.curve.proofs.RefusalLaws.{refused-number}
-use Rattle.page.specs.Pages.{pageText}
-use Rattle.run.specs.Run.{pageOf, hourText}
+use Rattle.page.specs.Pages.{verdictText, curveText}
+use Rattle.text.proofs.ListLaws.{sets-append}
+use Rattle.run.specs.Run.{pageLeaving, pageOf, hourText}
 use Rattle.run.proofs.RunLaws.{number-few}
 use Rattle.run.proofs.GoingLaws.{Going, positive, within, refused-room, read-faulty, read-found, going-start, going-end, going-faulty, going-refused, going-few, faulty-few, left-after, going-next}
 use Rattle.run.proofs.put_intervals.Statement.{statement}
 use Rattle.run.proofs.put_intervals.Tie as tie
 
+-- the hour of these
+abbrev hourOf : Market → List Row → Standing → Hour
+hourOf market rows standing = record { market = market; rows = rows; standing = standing }
+
 abbrev Inv-loop : tie.InvT-loop
-Inv-loop text start lines-before out₀ hour₀ at₀ line₀ i₀ p₀ out hour at line i p =
-    Going text out₀ (hourText hour₀ line₀ (lines (drop at₀ text))) out hour at line i p
+Inv-loop text start lines-before out₀ market rows standing₀ at₀ line₀ i₀ p₀ out standing at line i p =
+    Going text out₀ (hourText (hourOf market rows standing₀) line₀ (lines (drop at₀ text))) out (hourOf market rows standing) at line i p
 
 abbrev μ-loop : tie.MeasureT-loop
-μ-loop text start lines-before out₀ hour₀ at₀ line₀ i₀ p₀ out hour at line i p = 6 - i
+μ-loop text start lines-before out₀ market rows standing₀ at₀ line₀ i₀ p₀ out standing at line i p = 6 - i
+
+-- where the call starts, and the hour at the loop
+abbrev begin : tie.At-loop Inv-loop μ-loop → tie.Start Inv-loop μ-loop
+begin l = l .before .before .before .before .before .before
+
+abbrev hour : tie.At-loop Inv-loop μ-loop → Hour
+hour l = standingAt (begin l .args .fresh) (l .loop .standing)
 
 -- the lines at the loop's offset
 abbrev ahead : tie.At-loop Inv-loop μ-loop → List Line
-ahead l = lines (drop (l .loop .at) (l .before .before .before .args .text .now))
+ahead l = lines (drop (l .loop .at) (begin l .args .text .now))
 
 -- what is read of them
 read : (r : tie.After-interval-at Inv-loop μ-loop)
-    → reading (r .before .before .before .before .before .args .text .now) (r .interval-at .result .fault) (r .interval-at .result .interval) (r .interval-at .result .line) (r .interval-at .result .next)
+    → reading (begin (r .before .before) .args .text .now) (r .interval-at .result .fault) (r .interval-at .result .interval) (r .interval-at .result .line) (r .interval-at .result .next)
     ≡ readInterval (r .before .before .loop .line) (ahead (r .before .before))
 read r =
     let l = r .before .before in
@@ -46,29 +61,29 @@ read r =
 is-faulty : (t : tie.Then1 Inv-loop μ-loop) → readInterval (t .before .before .before .loop .line) (ahead (t .before .before .before)) ≡ faulty (t .before .interval-at .result .fault)
 is-faulty t =
     let r = t .before .interval-at .result in
-    read-faulty (t .before .before .before .before .before .before .args .text .now) (r .interval) (r .line) (r .next) (r .fault) _ (positive (r .fault) (t .if1 .taken)) (read (t .before))
+    read-faulty (begin (t .before .before .before) .args .text .now) (r .interval) (r .line) (r .next) (r .fault) _ (positive (r .fault) (t .if1 .taken)) (read (t .before))
 
 is-found : (e : tie.Else1 Inv-loop μ-loop)
     → readInterval (e .before .before .before .loop .line) (ahead (e .before .before .before))
-    ≡ found (e .before .interval-at .result .interval) (e .before .interval-at .result .line) (lines (drop (e .before .interval-at .result .next) (e .before .before .before .before .before .before .args .text .now)))
+    ≡ found (e .before .interval-at .result .interval) (e .before .interval-at .result .line) (lines (drop (e .before .interval-at .result .next) (begin (e .before .before .before) .args .text .now)))
 is-found e =
     let r = e .before .interval-at .result in
-    read-found (e .before .before .before .before .before .before .args .text .now) (r .interval) (r .line) (r .next) (r .fault) _ (e .if1 .left) (read (e .before))
+    read-found (begin (e .before .before .before) .args .text .now) (r .interval) (r .line) (r .next) (r .fault) _ (e .if1 .left) (read (e .before))
 
 -- the number of a refusal
 refusal : (n : tie.After-number Inv-loop μ-loop)
-    → hourRefusal (n .before .before .before .before .before .before .before .before .before .before .loop .hour) (n .before .before .before .before .before .before .before .before .interval-at .result .interval) ≡ n .number .result
+    → hourRefusal (hour (n .before .before .before .before .before .before .before .before .before .before)) (n .before .before .before .before .before .before .before .before .interval-at .result .interval) ≡ n .number .result
 refusal n =
-    sym (n .before .before .before .before .before .interval .ensures .0) ∙ ap outcomeNumber (n .before .before .before .outcome .given .1) ∙ sym (n .number .ensures)
+    sym (n .before .before .before .before .before .taken .ensures .0) ∙ ap outcomeNumber (n .before .before .before .outcome .given .1) ∙ sym (n .number .ensures)
 
 -- an accepted interval
 none : (t : tie.After-enum-told Inv-loop μ-loop)
-    → hourRefusal (t .before .before .before .before .before .before .before .loop .hour) (t .before .before .before .before .before .interval-at .result .interval) ≡ 0
-none t = sym (t .before .before .interval .ensures .0) ∙ ap outcomeNumber (t .enum-told .given .1)
+    → hourRefusal (hour (t .before .before .before .before .before .before .before)) (t .before .before .before .before .before .interval-at .result .interval) ≡ 0
+none t = sym (t .before .before .taken .ensures .0) ∙ ap outcomeNumber (t .enum-told .given .1)
 
 loop-holds : tie.Need-loop-holds Inv-loop μ-loop
 loop-holds c =
-    let s = c .before .before in
+    let s = c .before .before .before .before .before in
     going-start (s .args .text .now) (s .args .out .now) (s .args .fresh) (s .args .start) (s .args .lines-before) (s .pre .0) (s .pre .1 .1)
 
 interval-at-requires : tie.Need-interval-at-requires Inv-loop μ-loop
@@ -78,7 +93,7 @@ put-refusal-requires : tie.Need-put-refusal-requires Inv-loop μ-loop
 put-refusal-requires c κs =
     let l = c .before .before .before .before in
     let w = l .loop .inv in
-    (omega (arith, w .few, w .high, w .put .long, l .before .before .before .pre .1 .0), (omega arith, omega (arith, faulty-few w _ (is-faulty (c .before)))))
+    (omega (arith, w .few, w .high, w .put .long, begin l .pre .1 .0), (omega arith, omega (arith, faulty-few w _ (is-faulty (c .before)))))
 
 returns : tie.Need-returns Inv-loop μ-loop
 returns c =
@@ -96,8 +111,8 @@ same-length c =
     let l = t .before .before .before in
     ap length (q .put-refusal .ensures .0) ∙ length-sets (l .loop .out) (l .loop .p) (refusalText 17 (t .before .interval-at .result .fault)) ∙ l .loop .inv .put .long
 
-interval-requires : tie.Need-interval-requires Inv-loop μ-loop
-interval-requires c κs = search needs
+taken-requires : tie.Need-taken-requires Inv-loop μ-loop
+taken-requires c κs = search needs
 
 enum-known-outcome : tie.Need-enum-known-outcome Inv-loop μ-loop
 enum-known-outcome c = search needs
@@ -110,7 +125,7 @@ put-refusal-requires-2 c κs =
     let e = c .before .before .before .before .before .before .before in
     let l = e .before .before .before in
     let w = l .loop .inv in (
-      omega (arith, w .few, w .high, w .put .long, l .before .before .before .pre .1 .0),
+      omega (arith, w .few, w .high, w .put .long, begin l .pre .1 .0),
       (omega (arith, c .number .ensures, number-few (c .before .before .before .outcome .given .0 .0)), omega (arith, left-after w (e .before .before .loop-test .taken) _ _ _ (is-found e))),
     )
 
@@ -138,33 +153,55 @@ same-length-2 c =
 enum-told : tie.Need-enum-told Inv-loop μ-loop
 enum-told c = search needs
 
-put-page-requires : tie.Need-put-page-requires Inv-loop μ-loop
-put-page-requires c κs =
-    let t = c .before .before .before in
+-- the room that is left for a page
+page-room : (t : tie.After-enum-told Inv-loop μ-loop) → t .before .before .before .before .before .before .before .loop .p + 163840 ≤ length (t .before .before .before .before .before .before .before .loop .out)
+page-room t =
     let e = t .before .before .before .before in
     let l = e .before .before .before in
     let w = l .loop .inv in
-    omega (arith, w .few, w .put .long, l .before .before .before .pre .1 .0, going-few w (e .before .before .loop-test .taken) _ _ _ (is-found e) (none t))
+    omega (arith, w .few, w .put .long, begin l .pre .1 .0, going-few w (e .before .before .loop-test .taken) _ _ _ (is-found e) (none t))
+
+put-verdicts-requires : tie.Need-put-verdicts-requires Inv-loop μ-loop
+put-verdicts-requires c κs = omega (arith, page-room (c .before .before .before .before))
+
+put-curves-requires : tie.Need-put-curves-requires Inv-loop μ-loop
+put-curves-requires c κs =
+    let g = c .before .before .before in
+    let t = g .before .before .before .before .before in
+    let l = t .before .before .before .before .before .before .before in
+    let v = t .before .before .before .before .before .interval-at .result .interval in
+    let long = ap length (g .put-verdicts .ensures .0) ∙ length-sets (l .loop .out) (l .loop .p) (verdictText (l .loop .i) (v .constraints) (t .before .before .taken .result .verdicts)) in
+    omega (arith, page-room t, g .put-verdicts .ensures .1 .1, long)
 
 add-i : tie.Need-add-i Inv-loop μ-loop
-add-i c = let w = c .before .before .before .before .before .before .before .before .before .before .before .before .before .loop .inv in omega (arith, w .high)
+add-i c = let w = c .before .before .before .before .before .before .before .before .before .before .before .before .before .before .before .before .before .before .loop .inv in omega (arith, w .high)
 
 loop-less : tie.Need-loop-less Inv-loop μ-loop
-loop-less c = let w = c .before .before .before .before .before .before .before .before .before .before .before .before .before .loop .inv in omega (arith, w .high)
+loop-less c = let w = c .before .before .before .before .before .before .before .before .before .before .before .before .before .before .before .before .before .before .loop .inv in omega (arith, w .high)
 
 loop-again : tie.Need-loop-again Inv-loop μ-loop
+unfolding hourAfter
 loop-again c =
-    let g = c .before .before in
-    let t = g .before .before .before .before in
+    let k = c .before .before in
+    let g = k .before .before .before .before in
+    let t = g .before .before .before .before .before in
     let a = t .before .before in
     let e = a .before .before in
     let l = e .before .before .before in
+    let f = begin l .args .fresh in
     let v = e .before .interval-at .result .interval in
-    let same : pageText (l .loop .i) (a .interval .result .hour) (v .constraints) (a .interval .result .verdicts) ≡ pageOf (l .loop .i) (l .loop .hour) v
-    = ap₂ (λ (h : Hour) (vs : List Verdict). pageText (l .loop .i) h (v .constraints) vs) (a .interval .ensures .1 .0) (a .interval .ensures .1 .1) in
+    let first = verdictText (l .loop .i) (v .constraints) (a .taken .result .verdicts) in
+    let second = curveText (l .loop .i) (f .market .resources) (f .rows) (a .taken .result .standing .floors) in
+    let same : first ++ second ≡ pageOf (l .loop .i) (hour l) v
+    = ap₂ (λ (s : Standing) (vs : List Verdict). pageLeaving (l .loop .i) (standingAt f s) (v .constraints) vs) (a .taken .ensures .1 .0) (a .taken .ensures .1 .1) in
+    let p = g .put-verdicts .ensures in
+    let q = k .put-curves .ensures in
+    let put : k .put-curves .last .0 ≡ sets (l .loop .out) (l .loop .p) (first ++ second)
+    = q .0 ∙ ap₂ (λ (o : List ℕ) (j : ℕ). sets o j second) (p .0) (p .1 .0) ∙ sym (sets-append (l .loop .out) (l .loop .p) first second) in
+    let next : k .put-curves .result ≡ l .loop .p + length (first ++ second) = omega (arith, p .1 .0, q .1 .0, length-append first second) in
     going-next (l .loop .inv) (e .before .before .loop-test .taken) v (e .before .interval-at .result .line) (e .before .interval-at .result .next) (is-found e) (none t)
-    (a .interval .result .hour) (g .put-page .last .0) (g .put-page .result) (a .interval .ensures .1 .0)
-    (g .put-page .ensures .0 ∙ ap (sets (l .loop .out) (l .loop .p)) same) (g .put-page .ensures .1 .0 ∙ ap (λ (x : List ℕ). l .loop .p + length x) same) (g .put-page .ensures .1 .1)
+    (standingAt f (a .taken .result .standing)) (k .put-curves .last .0) (k .put-curves .result) (ap (standingAt f) (a .taken .ensures .1 .0))
+    (put ∙ ap (sets (l .loop .out) (l .loop .p)) same) (next ∙ ap (λ (x : List ℕ). l .loop .p + length x) same) (omega (arith, p .1 .1, q .1 .1))
 
 same-length-3 : tie.Need-same-length-3 Inv-loop μ-loop
 same-length-3 c = c .before .loop .inv .put .long
@@ -185,14 +222,15 @@ put-intervals-spec =
     put-refusal-requires
     same-length
     returns
-    interval-requires
+    taken-requires
     enum-known-outcome
     number-requires
     put-refusal-requires-2
     same-length-2
     returns-2
     enum-told
-    put-page-requires
+    put-verdicts-requires
+    put-curves-requires
     add-i
     loop-less
     loop-again

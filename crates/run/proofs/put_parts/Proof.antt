@@ -113,7 +113,7 @@ put-intervals-requires : tie.Need-put-intervals-requires
 put-intervals-requires c κs =
     let t = c .before .before in
     let e = begun t in
-    (ap (λ (h : Hour). h .accepted) (t .before .before .open .ensures .1) ∙ opened-fresh (e .before .opening-at .result .opening), (e .before .before .before .before .pre .0, left e))
+    (ap (λ (h : Hour). h .standing .accepted) (t .before .before .open .ensures .1) ∙ opened-fresh (e .before .opening-at .result .opening), (e .before .before .before .before .pre .0, left e))
 
 -- what the intervals of the opened hour print
 abbrev rest : tie.After-enum-told → List ℕ

@@ -9,16 +9,19 @@ use Rattle.curve.specs.Curves.{blankCurve}
 use Rattle.curve.specs.declared.Curve.{Curve}
 use Rattle.mitigation.specs.Mitigation.{segmentsN, joined, mitigated}
 use Rattle.mitigation.specs.declared.FloorPrice.the-variants.{Uncut}
-use Rattle.engine.specs.Hours.{noRow, rowCurve, curveIn}
+use Rattle.engine.specs.Hours.{uncut, noRow, rowCurve, curveIn}
 use Rattle.engine.proofs.Hour.curve.Statement.{statement}
 use Rattle.engine.proofs.Hour.curve.Tie as tie
 
--- what the type says: the array has 64 rows
+-- what the types say: the arrays have 64 cells
 rows-length : (c : tie.Start) → length (c .args .t1 .rows) ≡ 64
-rows-length c = simp length-map at (c .good .0 .1 .1 .1 .1 .0 .1 .0 .1)
+rows-length c = simp length-map at (c .good .0 .1 .1 .1 .0 .1 .0 .1)
+
+floors-length : (c : tie.Start) → length (c .args .t1 .standing .floors) ≡ 64
+floors-length c = simp length-map at (c .good .0 .1 .1 .1 .1 .0 .1 .1 .1 .0 .1 .0 .1)
 
 -- a row past the end is as blank as can be
-nothing : mitigated Uncut blankCurve blankCurve ≡ rowCurve noRow
+nothing : mitigated Uncut blankCurve blankCurve ≡ rowCurve noRow uncut
 unfolding mitigated segmentsN joined blankCurve padded
 nothing = refl
 
@@ -27,6 +30,12 @@ mul-row c = search needs
 
 element-copy-out-row : tie.Need-element-copy-out-row
 element-copy-out-row c = search needs
+
+mul-floor : tie.Need-mul-floor
+mul-floor c = search needs
+
+element-copy-out-floor : tie.Need-element-copy-out-floor
+element-copy-out-floor c = search needs
 
 row-curve-requires : tie.Need-row-curve-requires
 row-curve-requires c κs = search needs
@@ -47,10 +56,12 @@ returns c = c .row-curve .ensures
 returns-2 : tie.Need-returns-2
 unfolding curveIn
 returns-2 c =
-    let s = c .before .before .before .before in
-    let past : length (s .args .t1 .rows) ≤ s .args .r = omega (arith, rows-length s) in
+    let s = c .before .before .before .before .before in
+    let a = s .args .t1 in
+    let past : length (a .rows) ≤ s .args .r = omega (arith, rows-length s) in
+    let behind : length (a .standing .floors) ≤ s .args .r = omega (arith, floors-length s) in
     c .of .ensures ∙ ap₂ (λ (x y : Curve). mitigated Uncut x y) (c .before .before .blank .ensures) (c .before .blank2 .ensures) ∙ nothing
-    ∙ ap rowCurve (sym (List·getD-eq-default (s .args .t1 .rows) noRow past))
+    ∙ ap₂ rowCurve (sym (List·getD-eq-default (a .rows) noRow past)) (sym (List·getD-eq-default (a .standing .floors) uncut behind))
 
 pub curve-spec : {M : Type 1} → statement M
 curve-spec =
@@ -58,6 +69,8 @@ curve-spec =
     (tie.spec
     mul-row
     element-copy-out-row
+    mul-floor
+    element-copy-out-floor
     row-curve-requires
     blank-requires
     blank-requires-2

@@ -7,7 +7,7 @@ use Rattle.path.specs.declared.Market.{Market}
 use Rattle.resource.specs.declared.Row.{Row}
 use Rattle.opening.specs.Openings.{openingRefusal, marketOf, rowsOf, marketUnless, rowsUnless}
 use Rattle.opening.specs.declared.Opening.{Opening}
-use Rattle.engine.specs.Hours.{blankHour}
+use Rattle.engine.specs.Hours.{freshStanding, blankHour}
 use Rattle.engine.specs.Openings.{freshHour, hourUnless, openedHour}
 use Rattle.engine.specs.declared.Hour.{Hour}
 use Rattle.engine.proofs.Hour.open.Statement.{statement}
@@ -15,21 +15,24 @@ use Rattle.engine.proofs.Hour.open.Tie as tie
 
 -- the hour of what the checks hand back
 entered : (o : Opening) (m : Market) (rows : List Row) → m ≡ marketUnless (openingRefusal o) (marketOf o) → rows ≡ rowsUnless (openingRefusal o) (rowsOf o)
-    → _≡_ {A = Hour} (record { accepted = 0; market = m; rows = rows }) (openedHour o)
+    → _≡_ {A = Hour} (record { market = m; rows = rows; standing = freshStanding }) (openedHour o)
 unfolding openedHour freshHour blankHour
 entered o m rows e f = rw (e, f) (go (openingRefusal o))
   where
-    go : (n : ℕ) → _≡_ {A = Hour} (record { accepted = 0; market = marketUnless n (marketOf o); rows = rowsUnless n (rowsOf o) }) (hourUnless n (freshHour o))
+    go : (n : ℕ) → _≡_ {A = Hour} (record { market = marketUnless n (marketOf o); rows = rowsUnless n (rowsOf o); standing = freshStanding }) (hourUnless n (freshHour o))
     go zero = refl
     go (suc n) = refl
 
 entered-requires : tie.Need-entered-requires
 entered-requires c κs = search needs
 
+fresh-requires : tie.Need-fresh-requires
+fresh-requires c κs = search needs
+
 returns : tie.Need-returns
 returns c =
-    let e = c .before .before .entered in
-    (e .ensures .0, entered (c .before .before .before .args .o) (e .result .market) (e .result .rows) (e .ensures .1 .0) (e .ensures .1 .1))
+    let e = c .before .before .before .entered in
+    (e .ensures .0, rw (c .fresh .ensures) (entered (c .before .before .before .before .args .o) (e .result .market) (e .result .rows) (e .ensures .1 .0) (e .ensures .1 .1)))
 
 pub open-spec : {M : Type 1} → statement M
-open-spec = tie.close (tie.spec entered-requires returns)
+open-spec = tie.close (tie.spec entered-requires fresh-requires returns)

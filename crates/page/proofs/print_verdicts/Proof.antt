@@ -1,4 +1,4 @@
--- `page::print_page` meets its contract. Assumes nothing.
+-- `page::print_verdicts` meets its contract. Assumes nothing.
 use Prim.Native.Nat.{ℕ, _+_, _≤_}
 use mathlib.Core.Path.{_≡_, refl, sym, _∙_}
 use mathlib.Core.Bool.{true, false}
@@ -7,23 +7,17 @@ use native.Mathlib.Omega.{arith}
 use borrow.Author.Needs.{needs}
 use borrow.Author.Tests.{leb-true, leb-false, not-true, not-false}
 use lib.ListN.{length}
-use Rattle.page.specs.Pages.{verdictNames, sellerNames, curveNames, verdictTable, sellerTable, curveTable, pageText, pageRoom, hasRoom}
+use Rattle.page.specs.Pages.{verdictNames, sellerNames, verdictTable, sellerTable, verdictText, verdictRoom, hasRoom}
 use Rattle.page.proofs.PageLaws.{Putting, putting-start, putting-next, putting-done, within-none, within-some}
-use Rattle.page.proofs.print_page.Statement.{statement}
-use Rattle.page.proofs.print_page.Tie as tie
+use Rattle.page.proofs.print_verdicts.Statement.{statement}
+use Rattle.page.proofs.print_verdicts.Tie as tie
 
--- the page, and what is left of it after each piece
+-- the text, and what is left of it after each piece
 abbrev page : tie.Start → List ℕ
-page s = pageText (s .args .i) (s .args .hour) (s .args .constraints) (s .args .verdicts)
-
-abbrev rest5 : tie.Start → List ℕ
-rest5 s = curveTable (s .args .i) (s .args .hour .market .resources) (s .args .hour .rows)
-
-abbrev rest4 : tie.Start → List ℕ
-rest4 s = curveNames ++ rest5 s
+page s = verdictText (s .args .i) (s .args .constraints) (s .args .verdicts)
 
 abbrev rest3 : tie.Start → List ℕ
-rest3 s = sellerTable (s .args .i) (s .args .constraints) (s .args .verdicts) ++ rest4 s
+rest3 s = sellerTable (s .args .i) (s .args .constraints) (s .args .verdicts)
 
 abbrev rest2 : tie.Start → List ℕ
 rest2 s = sellerNames ++ rest3 s
@@ -35,11 +29,11 @@ rest1 s = verdictTable (s .args .i) (s .args .constraints) (s .args .verdicts) +
 abbrev start : tie.Else1 → tie.Start
 start e = e .before .before .before
 
-holds : (e : tie.Else1) → hasRoom pageRoom (start e .args .out .now) (start e .args .at) ≡ true
+holds : (e : tie.Else1) → hasRoom verdictRoom (start e .args .out .now) (start e .args .at) ≡ true
 holds e = sym (e .before .has-room .ensures) ∙ not-false (e .before .has-room .result) (e .if1 .left)
 
-room : (e : tie.Else1) → start e .args .at + pageRoom ≤ length (start e .args .out .now)
-room e = leb-true (start e .args .at + pageRoom) (length (start e .args .out .now)) (holds e)
+room : (e : tie.Else1) → start e .args .at + verdictRoom ≤ length (start e .args .out .now)
+room e = leb-true (start e .args .at + verdictRoom) (length (start e .args .out .now)) (holds e)
 
 -- the test before each call
 abbrev else1 : tie.After-put-names → tie.Else1
@@ -54,18 +48,12 @@ else3 c = else2 (c .before .before .before .before .before)
 abbrev else4 : tie.After-put-sellers → tie.Else1
 else4 c = else3 (c .before .before .before .before)
 
-abbrev else5 : tie.After-put-names3 → tie.Else1
-else5 c = else4 (c .before .before .before .before .before)
-
-abbrev else6 : tie.After-put-curves → tie.Else1
-else6 c = else5 (c .before .before .before .before)
-
--- how far the page is put: the rest is still to come, and so many bytes are used at most
+-- how far it is put: the rest is still to come, and so many bytes are used at most
 abbrev Stage : tie.Else1 → List ℕ → ℕ → List ℕ → ℕ → Type 0
 Stage e now p rest most = Putting (start e .args .out .now) (start e .args .at) (page (start e)) now p rest × (p ≤ start e .args .at + most)
 
 stage1 : (c : tie.After-put-names) → Stage (else1 c) (c .put-names .last .0) (c .put-names .result) (rest1 (start (else1 c))) 40
-unfolding pageText
+unfolding verdictText
 stage1 c =
     let s = start (else1 c) in
     (putting-next (putting-start (s .args .out .now) (s .args .at) (page s)) verdictNames (rest1 s) (c .put-names .last .0) (c .put-names .result) refl (c .put-names .ensures .0) (c .put-names .ensures .1), omega (arith, c .put-names .ensures .1))
@@ -82,23 +70,11 @@ stage3 c =
     let k = stage2 (c .before .before .before .before .before) in
     (putting-next (k .0) sellerNames (rest3 s) (c .put-names2 .last .0) (c .put-names2 .result) refl (c .put-names2 .ensures .0) (c .put-names2 .ensures .1), omega (arith, c .put-names2 .ensures .1, k .1))
 
-stage4 : (c : tie.After-put-sellers) → Stage (else4 c) (c .put-sellers .last .0) (c .put-sellers .result) (rest4 (start (else4 c))) 46447
+stage4 : (c : tie.After-put-sellers) → Stage (else4 c) (c .put-sellers .last .0) (c .put-sellers .result) [] 46447
 stage4 c =
     let s = start (else4 c) in
     let k = stage3 (c .before .before .before .before) in
-    (putting-next (k .0) (sellerTable (s .args .i) (s .args .constraints) (s .args .verdicts)) (rest4 s) (c .put-sellers .last .0) (c .put-sellers .result) refl (c .put-sellers .ensures .buffer) (c .put-sellers .ensures .next), omega (arith, c .put-sellers .ensures .few, k .1))
-
-stage5 : (c : tie.After-put-names3) → Stage (else5 c) (c .put-names3 .last .0) (c .put-names3 .result) (rest5 (start (else5 c))) 46475
-stage5 c =
-    let s = start (else5 c) in
-    let k = stage4 (c .before .before .before .before .before) in
-    (putting-next (k .0) curveNames (rest5 s) (c .put-names3 .last .0) (c .put-names3 .result) refl (c .put-names3 .ensures .0) (c .put-names3 .ensures .1), omega (arith, c .put-names3 .ensures .1, k .1))
-
-stage6 : (c : tie.After-put-curves) → Stage (else6 c) (c .put-curves .last .0) (c .put-curves .result) [] 148619
-stage6 c =
-    let s = start (else6 c) in
-    let k = stage5 (c .before .before .before .before) in
-    (putting-next (k .0) (rest5 s) [] (c .put-curves .last .0) (c .put-curves .result) (sym (append-nil (rest5 s))) (c .put-curves .ensures .buffer) (c .put-curves .ensures .next), omega (arith, c .put-curves .ensures .few, k .1))
+    (putting-next (k .0) (rest3 s) [] (c .put-sellers .last .0) (c .put-sellers .result) (sym (append-nil (rest3 s))) (c .put-sellers .ensures .buffer) (c .put-sellers .ensures .next), omega (arith, c .put-sellers .ensures .few, k .1))
 
 has-room-requires : tie.Need-has-room-requires
 has-room-requires c κs = search needs
@@ -107,9 +83,9 @@ returns : tie.Need-returns
 returns c =
     let r = c .before in
     let s = r .before .before in
-    let e : hasRoom pageRoom (s .args .out .now) (s .args .at) ≡ false = sym (r .has-room .ensures) ∙ not-true (r .has-room .result) (c .if1 .taken) in
-    let n = within-none pageRoom (s .args .out .now) (s .args .at) (page s) e in
-    (n .0, (n .1, λ h. absurd (omega (arith, leb-false (s .args .at + pageRoom) (length (s .args .out .now)) e))))
+    let e : hasRoom verdictRoom (s .args .out .now) (s .args .at) ≡ false = sym (r .has-room .ensures) ∙ not-true (r .has-room .result) (c .if1 .taken) in
+    let n = within-none verdictRoom (s .args .out .now) (s .args .at) (page s) e in
+    (n .0, (n .1, λ h. absurd (omega (arith, leb-false (s .args .at + verdictRoom) (length (s .args .out .now)) e))))
 
 slice-aggregate-put-names : tie.Need-slice-aggregate-put-names
 slice-aggregate-put-names c = search needs
@@ -135,34 +111,21 @@ put-sellers-requires c κs =
     let k = stage3 (c .before .before .before) in
     omega (arith, room (else3 (c .before .before .before)), k .0 .long, k .1)
 
-slice-aggregate-put-names-3 : tie.Need-slice-aggregate-put-names-3
-slice-aggregate-put-names-3 c = search needs
-
-put-names-requires-3 : tie.Need-put-names-requires-3
-put-names-requires-3 c κs =
-    let k = stage4 (c .before .before .before .before) in
-    omega (arith, room (else4 (c .before .before .before .before)), k .0 .long, k .1)
-
-put-curves-requires : tie.Need-put-curves-requires
-put-curves-requires c κs =
-    let k = stage5 (c .before .before .before) in
-    omega (arith, room (else5 (c .before .before .before)), k .0 .long, k .1)
-
 same-length : tie.Need-same-length
 same-length c = search needs
 
 returns-2 : tie.Need-returns-2
 returns-2 c =
     let p = c .before .before in
-    let e = else6 p in
+    let e = else4 p in
     let s = start e in
-    let k = stage6 p in
+    let k = stage4 p in
     let d = putting-done (k .0) refl in
-    let w = within-some pageRoom (s .args .out .now) (s .args .at) (page s) (p .put-curves .last .0) (p .put-curves .result) (holds e) (d .0) (d .1) in
+    let w = within-some verdictRoom (s .args .out .now) (s .args .at) (page s) (p .put-sellers .last .0) (p .put-sellers .result) (holds e) (d .0) (d .1) in
     (w .0, (w .1, λ h. omega (arith, k .1, d .1)))
 
-pub print-page-spec : {M : Type 1} → statement M
-print-page-spec =
+pub print-verdicts-spec : {M : Type 1} → statement M
+print-verdicts-spec =
     tie.close
     (tie.spec
     has-room-requires
@@ -173,8 +136,5 @@ print-page-spec =
     slice-aggregate-put-names-2
     put-names-requires-2
     put-sellers-requires
-    slice-aggregate-put-names-3
-    put-names-requires-3
-    put-curves-requires
     same-length
     returns-2)
