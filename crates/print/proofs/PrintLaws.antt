@@ -16,7 +16,7 @@ use lib.Signed.{ltZ, mag}
 use Rattle.number.proofs.OverLaws.{never, le-or-lt}
 use Rattle.print.specs.declared.Printed.the-variants.{To, Full}
 use Rattle.text.specs.Numbers.{Row, closing}
-use Rattle.print.specs.Printing.{digits, decimal, lineText, holds, printed, printedTo}
+use Rattle.print.specs.Printing.{digits, sign, decimal, lineText, holds, printed, printedTo}
 use Rattle.text.proofs.ListLaws.{at-cons, sets-append, sets-set}
 use Rattle.text.proofs.NumberLaws.{ten-top}
 
@@ -57,14 +57,18 @@ places (suc f) (suc k) n r h l =
     let at-least = l (omega arith) in
     more-length f n (omega arith) ∙ ap suc (places f k (n / 10) (omega arith) (omega arith) (λ z. omega arith))
 
--- the loop of digit_count
+-- the same with the count that is answered, where the bounds are numerals
+pub counted : (k n : ℕ) → suc k ≤ 19 → n < 10 ^ suc k → (0 < k → 10 ^ k ≤ n) → suc k ≡ length (digits 19 n)
+counted k n r h l = sym (places 19 k n r h l)
+
+-- the loop of digit_count, which starts at seven digits
 pub record Counting (n count bound : ℕ) : Type 0 where
   pub some : 1 ≤ count
   pub is : bound ≡ 10 ^ count
   pub passed : 1 < count → 10 ^ (count - 1) ≤ n
 
-pub counting-start : (n : ℕ) → Counting n 1 10
-counting-start n = record { some = omega arith; is = refl; passed = λ h. absurd (omega arith) }
+pub counting-start : (n : ℕ) → 1000000 ≤ n → Counting n 7 10000000
+counting-start n h = record { some = omega arith; is = refl; passed = λ z. h }
 
 module _ (n count bound : ℕ) (small : n < 10 ^ 19) (c : Counting n count bound) where
   below : bound ≤ n → count < 19
@@ -151,25 +155,32 @@ module _ (out : List ℕ) (at n : ℕ) (now : List ℕ) (p rest : ℕ) (w : Putt
   putting-done h = let z : p - at ≡ 0 = omega arith in ap (λ (i : ℕ). sets now at (last i rest)) (sym z) ∙ w .whole
 
 -- ---- a number with its sign
+pub sign-plus : (x : ℤ) → ltZ x (pos 0) ≡ false → sign x ≡ []
+unfolding sign
+sign-plus (pos n) e = refl
+sign-plus (negsuc n) e = never (sym e)
+
+pub sign-minus : (x : ℤ) → ltZ x (pos 0) ≡ true → sign x ≡ 45 ∷ []
+unfolding sign
+sign-minus (pos n) e = absurd (not-suc-le-zero (ltb-true n 0 e))
+sign-minus (negsuc n) e = refl
+
+pub decimal-sign : (x : ℤ) → decimal x ≡ sign x ++ digits 19 (natAbs x)
+unfolding decimal sign
+decimal-sign (pos n) = refl
+decimal-sign (negsuc n) = refl
+
 pub decimal-plus : (x : ℤ) → ltZ x (pos 0) ≡ false → decimal x ≡ digits 19 (natAbs x)
-unfolding decimal
-decimal-plus (pos n) e = refl
-decimal-plus (negsuc n) e = never (sym e)
+decimal-plus x e = decimal-sign x ∙ ap (λ (l : List ℕ). l ++ digits 19 (natAbs x)) (sign-plus x e)
 
 pub decimal-minus : (x : ℤ) → ltZ x (pos 0) ≡ true → decimal x ≡ 45 ∷ digits 19 (natAbs x)
-unfolding decimal
-decimal-minus (pos n) e = absurd (not-suc-le-zero (ltb-true n 0 e))
-decimal-minus (negsuc n) e = refl
+decimal-minus x e = decimal-sign x ∙ ap (λ (l : List ℕ). l ++ digits 19 (natAbs x)) (sign-minus x e)
 
 pub abs-small : (x : ℤ) → mag x < 2 ^ 63 → natAbs x < 10 ^ 19
 abs-small (pos n) h = omega arith
 abs-small (negsuc n) h = omega arith
 
--- ---- one text after another
-pub put-cons : (out now : List ℕ) (at b : ℕ) (text : List ℕ) → now ≡ sets (set out at b) (at + 1) text → now ≡ sets out at (b ∷ text)
-put-cons out now at b text e = e ∙ ap (λ (i : ℕ). sets (set out at b) i text) (add-one at)
-
--- the values of a line from the i-th on
+-- ---- one text after another: the values of a line from the i-th on
 line-next : (x : Row) (i : ℕ) → i < length x → lineText (drop i x) ≡ decimal (getD x i (pos 0)) ++ (closing (length x - i - 1) ∷ lineText (drop (i + 1) x))
 unfolding lineText
 line-next x i h =

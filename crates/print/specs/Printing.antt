@@ -15,6 +15,11 @@ unfoldable pub digits : ℕ → ℕ → List ℕ
 digits zero n = []
 digits (suc f) n = let more = digits f (n / 10) ++ ((48 + n % 10) ∷ []) in cond (ltb n 10) ((48 + n) ∷ []) more
 
+-- what stands before the digits of a number
+unfoldable pub sign : ℤ → List ℕ
+sign (pos n) = []
+sign (negsuc n) = 45 ∷ []
+
 -- a number as text, ""-" before a negative": 19 digits hold every number of 63 bits
 unfoldable pub decimal : ℤ → List ℕ
 decimal (pos n) = digits 19 n

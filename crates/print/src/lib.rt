@@ -6,7 +6,7 @@ ghost use lib.ListN.{length, take};
 ghost use lib.Seq.{sets};
 ghost use lib.Dec.{leb};
 ghost use lib.IntN.{natAbs};
-ghost use Rattle.print.specs.Printing.{digits, decimal, lineText, printed, printedTo};
+ghost use Rattle.print.specs.Printing.{digits, sign, decimal, lineText, printed, printedTo};
 
 // The offset after what was put, or that it did not fit and nothing was put.
 pub enum Printed {
@@ -28,8 +28,26 @@ fn digit_count(n: u64) -> usize
     requires { ⌜ n < 10 ^ 19 ⌝ }
     ensures { λ r. ⌜ r ≡ length (digits 19 n) ⌝ }
 {
-    let mut count = 1;
-    let mut bound: u64 = 10;
+    if n < 10000 {
+        if n < 10 {
+            return 1;
+        }
+        if n < 100 {
+            return 2;
+        }
+        if n < 1000 {
+            return 3;
+        }
+        return 4;
+    }
+    if n < 100000 {
+        return 5;
+    }
+    if n < 1000000 {
+        return 6;
+    }
+    let mut count = 7;
+    let mut bound: u64 = 10000000;
     while bound <= n {
         bound *= 10;
         count += 1;
@@ -61,16 +79,25 @@ fn put_digits(out: &mut [u8], at: usize, n: u64) -> usize
     end
 }
 
+// Puts the minus of a negative number at an offset, and answers the offset after it.
+fn put_sign(out: &mut [u8], at: usize, x: i64) -> usize
+    requires { ⌜ at + length (sign x) ≤ length (now out) ⌝ }
+    ensures { λ r. ⌜ (now (out .exit) ≡ sets (now (out .entry)) at (sign x)) × (r ≡ at + length (sign x)) ⌝ }
+{
+    if x < 0 {
+        out[at] = 45;
+        return at + 1;
+    }
+    at
+}
+
 // Puts a number at an offset, and answers the offset after it.
 fn put_number(out: &mut [u8], at: usize, x: i64) -> usize
     requires { ⌜ at + length (decimal x) ≤ length (now out) ⌝ }
     ensures { λ r. ⌜ (now (out .exit) ≡ sets (now (out .entry)) at (decimal x)) × (r ≡ at + length (decimal x)) ⌝ }
 {
-    if x < 0 {
-        out[at] = 45;
-        return put_digits(out, at + 1, magnitude(x));
-    }
-    put_digits(out, at, magnitude(x))
+    let p = put_sign(out, at, x);
+    put_digits(out, p, magnitude(x))
 }
 
 // Puts the line of the first k values at an offset, and answers the offset after it.
