@@ -122,37 +122,76 @@ digits-last (suc f) n = ⊎-elim (more (digits-last f (n / 10))) one (le-or-lt 1
         let m : n ≡ n % 10 = omega arith in
         digits-one f n h ∙ ap (λ (d : ℕ). (48 + d) ∷ []) m ∙ ap (λ (k : ℕ). last k n) (sym (ap length (digits-one f n h)))
 
--- the loop of put_digits: p - at digits of what is left of n are to be put
-pub record Putting (out : List ℕ) (at n : ℕ) (now : List ℕ) (p rest : ℕ) : Type 0 where
-  pub low : at ≤ p
-  pub high : p ≤ at + length (digits 19 n)
-  pub whole : sets now at (last (p - at) rest) ≡ sets out at (digits 19 n)
+-- n is below the power of ten of that many places
+digits-top : (f n : ℕ) → n < 10 ^ f → n < 10 ^ length (digits f n)
+unfolding digits
+digits-top zero n h = h
+digits-top (suc f) n h = ⊎-elim (more (digits-top f (n / 10))) one (le-or-lt 10 n)
+  where
+    more : (n / 10 < 10 ^ f → n / 10 < 10 ^ length (digits f (n / 10))) → 10 ≤ n → n < 10 ^ length (digits (suc f) n)
+    more ih m =
+        let t : 10 ^ suc f ≡ 10 ^ f * 10 = pow-suc 10 f in
+        let i = ih (omega arith) in
+        let u : 10 ^ suc (length (digits f (n / 10))) ≡ 10 ^ length (digits f (n / 10)) * 10 = pow-suc 10 (length (digits f (n / 10))) in
+        subst (λ (k : ℕ). n < 10 ^ k) (sym (more-length f n m)) (omega arith)
+
+    one : n < 10 → n < 10 ^ length (digits (suc f) n)
+    one m = subst (λ (k : ℕ). n < 10 ^ k) (sym (ap length (digits-one f n m))) m
+
+-- the loop of put_digits: the last `left` digits of `rest` are still to be put
+pub record Putting (out : List ℕ) (at n : ℕ) (now : List ℕ) (left rest : ℕ) : Type 0 where
+  pub high : left ≤ length (digits 19 n)
+  pub small : rest < 10 ^ left
+  pub whole : sets now at (last left rest) ≡ sets out at (digits 19 n)
   pub long : length now ≡ length out
 
-pub putting-start : (out : List ℕ) (at n k : ℕ) → k ≡ length (digits 19 n) → Putting out at n out (at + k) n
-putting-start out at n k e =
-    let z : at + k - at ≡ length (digits 19 n) = omega arith in
-    record { low = omega arith; high = omega arith; whole = rw z (ap (sets out at) (sym (digits-last 19 n))); long = refl }
+pub putting-start : (out : List ℕ) (at n k : ℕ) → n < 10 ^ 19 → k ≡ length (digits 19 n) → Putting out at n out k n
+putting-start out at n k h e =
+    record {
+      high = omega arith;
+      small = subst (λ (j : ℕ). n < 10 ^ j) (sym e) (digits-top 19 n h);
+      whole = ap (λ (j : ℕ). sets out at (last j n)) e ∙ ap (sets out at) (sym (digits-last 19 n));
+      long = refl;
+    }
 
-module _ (out : List ℕ) (at n : ℕ) (now : List ℕ) (p rest : ℕ) (w : Putting out at n now p rest) where
-  pub putting-more : (d : ℕ) → at < p → d ≡ 48 + rest % 10 → Putting out at n (set now (p - 1) d) (p - 1) (rest / 10)
-  putting-more d h e =
-      let k : p - at ≡ suc (p - 1 - at) = omega arith in
-      let j : at + length (last (p - 1 - at) (rest / 10)) ≡ p - 1 = let q = last-length (p - 1 - at) (rest / 10) in omega arith in
+module _ (out : List ℕ) (at n : ℕ) (now : List ℕ) (left rest : ℕ) (w : Putting out at n now left rest) where
+  -- one digit
+  pub putting-one : (i d : ℕ) → 0 < left → i ≡ at + (left - 1) → d ≡ 48 + rest % 10 → Putting out at n (set now i d) (left - 1) (rest / 10)
+  putting-one i d h a e =
+      let k : left ≡ suc (left - 1) = omega arith in
+      let l = last (left - 1) (rest / 10) in
+      let j : at + length l ≡ i = let q = last-length (left - 1) (rest / 10) in omega arith in
+      let t : 10 ^ left ≡ 10 ^ (left - 1) * 10 = ap (λ (m : ℕ). 10 ^ m) k ∙ pow-suc 10 (left - 1) in
       record {
-        low = omega arith;
         high = omega (arith, w .high);
+        small = omega (arith, w .small);
         whole =
-            sets-set now at (last (p - 1 - at) (rest / 10)) (p - 1) d (omega arith)
-            ∙ ap (λ (i : ℕ). set (sets now at (last (p - 1 - at) (rest / 10))) i d) (sym j)
-            ∙ ap (set (sets now at (last (p - 1 - at) (rest / 10))) (at + length (last (p - 1 - at) (rest / 10)))) e
-            ∙ sym (sets-append now at (last (p - 1 - at) (rest / 10)) ((48 + rest % 10) ∷ []))
-            ∙ ap (λ (i : ℕ). sets now at (last i rest)) (sym k) ∙ w .whole;
-        long = length-set now (p - 1) d ∙ w .long;
+            sets-set now at l i d (omega arith) ∙ ap (λ (m : ℕ). set (sets now at l) m d) (sym j)
+            ∙ ap (set (sets now at l) (at + length l)) e ∙ sym (sets-append now at l ((48 + rest % 10) ∷ []))
+            ∙ ap (λ (m : ℕ). sets now at (last m rest)) (sym k) ∙ w .whole;
+        long = length-set now i d ∙ w .long;
       }
 
-  pub putting-done : p ≤ at → now ≡ sets out at (digits 19 n)
-  putting-done h = let z : p - at ≡ 0 = omega arith in ap (λ (i : ℕ). sets now at (last i rest)) (sym z) ∙ w .whole
+  pub putting-done : left ≡ 0 → now ≡ sets out at (digits 19 n)
+  putting-done z = ap (λ (i : ℕ). sets now at (last i rest)) (sym z) ∙ w .whole
+
+-- two digits, the last one first
+pub putting-two : (out : List ℕ) (at n : ℕ) (now : List ℕ) (left rest i j d e : ℕ) → Putting out at n now left rest → 1 < left → i ≡ at + left - 1 → j ≡ at + left - 2
+    → d ≡ 48 + rest % 10 → e ≡ 48 + rest % 100 / 10 → Putting out at n (set (set now i d) j e) (left - 2) (rest / 100)
+putting-two out at n now left rest i j d e w h a b p q =
+    let one = putting-one out at n now left rest w i d (omega arith) (omega arith) p in
+    let two = putting-one out at n (set now i d) (left - 1) (rest / 10) one j e (omega arith) (omega arith) (omega arith) in
+    let k : left - 1 - 1 ≡ left - 2 = omega arith in
+    let r : rest / 10 / 10 ≡ rest / 100 = omega arith in
+    subst (λ (m : ℕ). Putting out at n (set (set now i d) j e) m (rest / 100)) k
+    (subst (λ (m : ℕ). Putting out at n (set (set now i d) j e) (left - 1 - 1) m) r two)
+
+-- the one digit that is left
+pub putting-end : (out : List ℕ) (at n : ℕ) (now : List ℕ) (left rest d : ℕ) → Putting out at n now left rest → left ≡ 1 → d ≡ 48 + rest → set now at d ≡ sets out at (digits 19 n)
+putting-end out at n now left rest d w h p =
+    let t : rest < 10 = subst (λ (k : ℕ). rest < 10 ^ k) h (w .small) in
+    putting-done out at n (set now at d) (left - 1) (rest / 10)
+    (putting-one out at n now left rest w at d (omega arith) (omega arith) (omega arith)) (omega arith)
 
 -- ---- a number with its sign
 pub sign-plus : (x : ℤ) → ltZ x (pos 0) ≡ false → sign x ≡ []

@@ -1,7 +1,7 @@
 // Numbers, lines of values and names lines, put into a lent buffer at an offset (paper 01, Text). The contracts cite specs/Printing.
 use text::lines::closing;
 ghost use mathlib.Core.Path.{_≡_};
-ghost use Prim.Native.Nat.{_+_, _^_, _<_, _≤_, min};
+ghost use Prim.Native.Nat.{_+_, _/_, _^_, _<_, _≤_, min};
 ghost use lib.ListN.{length, take};
 ghost use lib.Seq.{sets};
 ghost use lib.Dec.{leb};
@@ -55,6 +55,14 @@ fn digit_count(n: u64) -> usize
     count
 }
 
+// The tens of n: cheaper as a product and a shift than as a division.
+fn tens(n: u64) -> u64
+    requires { ⌜ n < 100 ⌝ }
+    ensures { λ r. ⌜ r ≡ n / 10 ⌝ }
+{
+    n * 103 / 1024
+}
+
 fn digit(d: u64) -> u8
     requires { ⌜ d < 10 ⌝ }
     ensures { λ r. ⌜ r ≡ 48 + d ⌝ }
@@ -62,21 +70,28 @@ fn digit(d: u64) -> u8
     48 + d as u8
 }
 
-// Puts the digits of n at an offset, the last one first, and answers the offset after them.
+// Puts the digits of n at an offset, two at a time from the last on, and answers the offset after them.
 fn put_digits(out: &mut [u8], at: usize, n: u64) -> usize
     requires { ⌜ n < 10 ^ 19 ⌝ }
     requires { ⌜ at + length (digits 19 n) ≤ length (now out) ⌝ }
     ensures { λ r. ⌜ (now (out .exit) ≡ sets (now (out .entry)) at (digits 19 n)) × (r ≡ at + length (digits 19 n)) ⌝ }
 {
-    let end = at + digit_count(n);
-    let mut p = end;
+    let count = digit_count(n);
+    let mut left = count;
     let mut rest = n;
-    while at < p {
-        p -= 1;
-        out[p] = digit(rest % 10);
-        rest /= 10;
+    while 1 < left {
+        let two = rest % 100;
+        let ten = tens(two);
+        out[at + left - 1] = digit(two - ten * 10);
+        out[at + left - 2] = digit(ten);
+        left -= 2;
+        rest /= 100;
     }
-    end
+    if left == 0 {
+        return at + count;
+    }
+    out[at] = digit(rest);
+    at + count
 }
 
 // Puts the minus of a negative number at an offset, and answers the offset after it.

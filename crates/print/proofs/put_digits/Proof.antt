@@ -1,53 +1,115 @@
 -- `print::put_digits` meets its contract. Assumes nothing.
-use Prim.Native.Nat.{ℕ, _+_, _-_}
+use Prim.Native.Nat.{ℕ, _+_, _-_, _^_, _≤_, _<_}
 use native.Mathlib.Omega.{arith}
 use borrow.Author.Needs.{needs}
-use mathlib.Core.Path.{ap}
-use Rattle.print.proofs.PrintLaws.{Putting, putting-start, putting-more, putting-done}
+use mathlib.Core.Path.{_≡_, refl, ap, subst, _∙_}
+use lib.ListN.{length, length-set}
+use Rattle.print.proofs.PrintLaws.{Putting, putting-start, putting-two, putting-end, putting-done}
 use Rattle.print.proofs.put_digits.Statement.{statement}
 use Rattle.print.proofs.put_digits.Tie as tie
 
 abbrev Inv-loop : tie.InvT-loop
-Inv-loop out₀ at n end p₀ rest₀ out p rest = Putting out₀ at n out p rest
+Inv-loop out₀ at n count left₀ rest₀ out left rest = Putting out₀ at n out left rest
 
 abbrev μ-loop : tie.MeasureT-loop
-μ-loop out₀ at n end p₀ rest₀ out p rest = p - at
+μ-loop out₀ at n count left₀ rest₀ out left rest = left
 
 digit-count-requires : tie.Need-digit-count-requires Inv-loop μ-loop
 digit-count-requires c κs = search needs
 
-add-end : tie.Need-add-end Inv-loop μ-loop
-add-end c = omega arith
-
 loop-holds : tie.Need-loop-holds Inv-loop μ-loop
-loop-holds c = let a = c .before .before .args in putting-start (a .out .now) (a .at) (a .n) (c .digit-count .result) (c .digit-count .ensures)
+loop-holds c =
+    let s = c .before .before in
+    putting-start (s .args .out .now) (s .args .at) (s .args .n) (c .digit-count .result) (s .pre .0) (c .digit-count .ensures)
 
-sub-p : tie.Need-sub-p Inv-loop μ-loop
-sub-p c = omega arith
+-- what is still to be put fits
+room : (l : tie.At-loop Inv-loop μ-loop) → l .before .before .before .args .at + l .loop .left ≤ length (l .loop .out)
+room l = omega (arith, l .loop .inv .high, l .loop .inv .long, l .before .before .before .pre .1)
+
+-- one digit is left where two are not, and some are
+single : (c : tie.Else1 Inv-loop μ-loop) → c .before .before .loop .left ≡ 1
+single c = omega (arith, c .before .loop-test .left, c .if1 .left)
+
+tens-requires : tie.Need-tens-requires Inv-loop μ-loop
+tens-requires c κs = omega arith
+
+mul-digit : tie.Need-mul-digit Inv-loop μ-loop
+mul-digit c = omega (arith, c .tens .ensures)
+
+sub-digit : tie.Need-sub-digit Inv-loop μ-loop
+sub-digit c = omega (arith, c .tens .ensures)
 
 digit-requires : tie.Need-digit-requires Inv-loop μ-loop
-digit-requires c κs = omega arith
+digit-requires c κs = omega (arith, c .tens .ensures)
+
+add-out : tie.Need-add-out Inv-loop μ-loop
+add-out c = omega (arith, room (c .before .before .before))
+
+sub-out : tie.Need-sub-out Inv-loop μ-loop
+sub-out c = omega arith
 
 slice-write-out : tie.Need-slice-write-out Inv-loop μ-loop
-slice-write-out c = let l = c .before .before in omega (arith, l .loop .inv .high, l .loop .inv .long, l .before .before .before .pre)
+slice-write-out c = omega (arith, room (c .before .before .before))
+
+digit-requires-2 : tie.Need-digit-requires-2 Inv-loop μ-loop
+digit-requires-2 c κs = omega (arith, c .before .tens .ensures)
+
+add-out-2 : tie.Need-add-out-2 Inv-loop μ-loop
+add-out-2 c = omega (arith, room (c .before .before .before .before))
+
+sub-out-2 : tie.Need-sub-out-2 Inv-loop μ-loop
+sub-out-2 c = omega arith
+
+slice-write-out-2 : tie.Need-slice-write-out-2 Inv-loop μ-loop
+slice-write-out-2 c =
+    let l = c .before .before .before .before in
+    omega (arith, room l, length-set (l .loop .out) (l .before .before .before .args .at + l .loop .left - 1) (c .before .digit .result))
+
+sub-left : tie.Need-sub-left Inv-loop μ-loop
+sub-left c = omega arith
 
 loop-less : tie.Need-loop-less Inv-loop μ-loop
 loop-less c = omega arith
 
 loop-again : tie.Need-loop-again Inv-loop μ-loop
 loop-again c =
-    let l = c .before .before in
+    let t = c .before .before in
+    let l = t .before .before in
     let a = l .before .before .before .args in
-    putting-more (a .out .now) (a .at) (a .n) (l .loop .out) (l .loop .p) (l .loop .rest) (l .loop .inv) (c .digit .result) (c .before .loop-test .taken) (c .digit .ensures)
+    putting-two (a .out .now) (a .at) (a .n) (l .loop .out) (l .loop .left) (l .loop .rest) (a .at + l .loop .left - 1) (a .at + l .loop .left - 2) (c .before .digit .result) (c .digit2 .result)
+    (l .loop .inv) (t .before .loop-test .taken) refl refl (omega (arith, c .before .digit .ensures, t .tens .ensures)) (omega (arith, c .digit2 .ensures, t .tens .ensures))
+
+add-result : tie.Need-add-result Inv-loop μ-loop
+add-result c = let d = c .before .before .before in omega (arith, d .digit-count .ensures)
 
 same-length : tie.Need-same-length Inv-loop μ-loop
-same-length c = c .before .loop .inv .long
+same-length c = c .before .before .loop .inv .long
 
 returns : tie.Need-returns Inv-loop μ-loop
 returns c =
-    let l = c .before in
+    let l = c .before .before in
     let a = l .before .before .before .args in
-    (putting-done (a .out .now) (a .at) (a .n) (l .loop .out) (l .loop .p) (l .loop .rest) (l .loop .inv) (c .loop-test .left), ap (λ (k : ℕ). a .at + k) (l .before .digit-count .ensures))
+    (putting-done (a .out .now) (a .at) (a .n) (l .loop .out) (l .loop .left) (l .loop .rest) (l .loop .inv) (c .if1 .taken), ap (λ (k : ℕ). a .at + k) (l .before .digit-count .ensures))
+
+digit-requires-3 : tie.Need-digit-requires-3 Inv-loop μ-loop
+digit-requires-3 c κs = subst (λ (k : ℕ). c .before .before .loop .rest < 10 ^ k) (single c) (c .before .before .loop .inv .small)
+
+slice-write-out-3 : tie.Need-slice-write-out-3 Inv-loop μ-loop
+slice-write-out-3 c = omega (arith, single (c .before), room (c .before .before .before))
+
+add-result-2 : tie.Need-add-result-2 Inv-loop μ-loop
+add-result-2 c = let d = c .before .before .before .before in omega (arith, d .digit-count .ensures)
+
+same-length-2 : tie.Need-same-length-2 Inv-loop μ-loop
+same-length-2 c = let l = c .before .before .before in length-set (l .loop .out) (l .before .before .before .args .at) (c .digit3 .result) ∙ l .loop .inv .long
+
+returns-2 : tie.Need-returns-2 Inv-loop μ-loop
+returns-2 c =
+    let l = c .before .before .before in
+    let a = l .before .before .before .args in (
+      putting-end (a .out .now) (a .at) (a .n) (l .loop .out) (l .loop .left) (l .loop .rest) (c .digit3 .result) (l .loop .inv) (single (c .before)) (c .digit3 .ensures),
+      ap (λ (k : ℕ). a .at + k) (l .before .digit-count .ensures),
+    )
 
 pub put-digits-spec : {M : Type 1} → statement M
 put-digits-spec =
@@ -56,12 +118,26 @@ put-digits-spec =
     Inv-loop
     μ-loop
     digit-count-requires
-    add-end
     loop-holds
-    sub-p
+    tens-requires
+    mul-digit
+    sub-digit
     digit-requires
+    add-out
+    sub-out
     slice-write-out
+    digit-requires-2
+    add-out-2
+    sub-out-2
+    slice-write-out-2
+    sub-left
     loop-less
     loop-again
+    add-result
     same-length
-    returns)
+    returns
+    digit-requires-3
+    slice-write-out-3
+    add-result-2
+    same-length-2
+    returns-2)
