@@ -1,11 +1,14 @@
 -- Laws of the part that opens an hour: its records by their fields, and table after table. Assumes nothing.
-use Prim.Native.Nat.{ℕ, zero, suc, _<_}
+use Prim.Native.Nat.{ℕ, zero, suc, _+_, _-_, _≤_, _<_, min}
 use mathlib.Core.Path.{_≡_, refl, sym, ap, _∙_}
 use mathlib.Core.List.{List, [], _∷_, map}
 use native.Mathlib.Omega.{arith}
-use lib.ListN.{length, getD}
+use lib.ListN.{length, getD, List·getD-eq-default}
 use lib.IntN.{ℤ, pos}
-use Rattle.number.proofs.ListedLaws.{listed-is}
+use native.Mathlib.Nat.{le-refl}
+use Rattle.number.specs.Over.{listed, padded}
+use Rattle.number.proofs.ListedLaws.{listed-is, padded-kept, padded-full}
+use Rattle.resource.specs.declared.Resource.{Resource}
 use Rattle.curve.specs.declared.RawCurve.{RawCurve}
 use Rattle.cost.specs.declared.Costs.{Costs}
 use Rattle.opening.specs.Openings.{noRaw, noCosts}
@@ -15,8 +18,7 @@ use Rattle.text.specs.Offsets.{kept}
 use Rattle.text.proofs.ListLaws.{sets-read}
 use Rattle.text.proofs.TableLaws.{kept-length}
 use Rattle.parts.specs.Parts.{bidOf, costsOf, resourceOf, resourcesOf}
-use Rattle.resource_part.specs.Joined.{joined}
-use Rattle.resource_part.specs.Joined.{listFrom}
+use Rattle.resource_part.specs.Joined.{joined, resourceFrom, listFrom}
 use Rattle.opening_part.specs.Shown.{faultAlone, aloneIf}
 use Rattle.opening_part.specs.declared.OpeningRead.{OpeningRead}
 use Rattle.resource_part.specs.declared.Owners.{Owners}
@@ -53,7 +55,7 @@ resources-at (x ∷ xs) (s ∷ ss) (p ∷ ps) [] a b c i = absurd (omega arith)
 resources-at (x ∷ xs) (s ∷ ss) (p ∷ ps) (y ∷ cs) a b c zero = refl
 resources-at (x ∷ xs) (s ∷ ss) (p ∷ ps) (y ∷ cs) a b c (suc i) = resources-at xs ss ps cs (omega arith) (omega arith) (omega arith) i
 
-module _ (xs : List Row) (ss ps : List (List Row)) (cs : List Row) (os : Owners) (eo : os .portfolio ≡ kept 64 (pos 0) (map (cell 1) xs)) (es : os .start ≡ kept 64 (pos 0) (map (cell 2) xs)) where
+module _ (xs : List Row) (ss ps : List (List Row)) (cs : List Row) (os : Owners) (ec : os .count ≡ length xs) (eo : os .portfolio ≡ kept 64 (pos 0) (map (cell 1) xs)) (es : os .start ≡ kept 64 (pos 0) (map (cell 2) xs)) where
   -- resource k as the tables have it
   resource-is : (k : ℕ) → k < 64
       → joined (getD (os .portfolio) k (pos 0)) (getD (os .start) k (pos 0)) (getD (kept 64 (bidOf (pos 0) []) (map (bidOf (pos 0)) ss)) k noRaw) (getD (kept 64 (costsOf [] []) (map (λ ys. costsOf ys []) ps)) k noCosts) (getD (kept 64 (costsOf [] []) (map (costsOf []) cs)) k noCosts)
@@ -69,13 +71,38 @@ module _ (xs : List Row) (ss ps : List (List Row)) (cs : List Row) (os : Owners)
       ∙ ap (λ (z : Costs). joined (cell 1 (getD xs k [])) (cell 2 (getD xs k [])) b z (getD (kept 64 (costsOf [] []) (map (costsOf []) cs)) k noCosts)) (kept-at (λ ys. costsOf ys []) [] noCosts ps k h)
       ∙ ap (joined (cell 1 (getD xs k [])) (cell 2 (getD xs k [])) b p) (kept-at (costsOf []) [] noCosts cs k h)
 
-  pub list-is : length ss ≡ length xs → length ps ≡ length xs → length cs ≡ length xs
-      → listFrom os (kept 64 (bidOf (pos 0) []) (map (bidOf (pos 0)) ss)) (kept 64 (costsOf [] []) (map (λ ys. costsOf ys []) ps)) (kept 64 (costsOf [] []) (map (costsOf []) cs))
-      ≡ kept 64 (resourceOf [] [] [] []) (resourcesOf xs ss ps cs)
-  unfolding listFrom kept
-  list-is a b c =
-      sym (listed-is (resourceOf [] [] [] []) (kept 64 (resourceOf [] [] [] []) (resourcesOf xs ss ps cs)) _ 64 (kept-length 64 (resourceOf [] [] [] []) (resourcesOf xs ss ps cs))
-      (λ k h. sets-read 64 (resourceOf [] [] [] []) (resourcesOf xs ss ps cs) k h ∙ resources-at xs ss ps cs a b c k ∙ sym (resource-is k h)))
+  -- resource k of the tables
+  from : ℕ → Resource
+  from = resourceFrom (os .portfolio) (os .start) (kept 64 (bidOf (pos 0) []) (map (bidOf (pos 0)) ss)) (kept 64 (costsOf [] []) (map (λ ys. costsOf ys []) ps)) (kept 64 (costsOf [] []) (map (costsOf []) cs))
+
+  module _ (a : length ss ≡ length xs) (b : length ps ≡ length xs) (c : length cs ≡ length xs) where
+    -- past those that are listed it is blank
+    past : (k : ℕ) → k < 64 → length xs ≤ k → from k ≡ resourceOf [] [] [] []
+    unfolding from
+    past k h l =
+        let la : length ss ≤ k = omega arith in
+        let lb : length ps ≤ k = omega arith in
+        let lc : length cs ≤ k = omega arith in
+        let x = List·getD-eq-default xs [] l in
+        let y = List·getD-eq-default ss [] la in
+        let z = List·getD-eq-default ps [] lb in
+        let w = List·getD-eq-default cs [] lc in
+        resource-is k h ∙ rw (x, y, z, w)
+
+    filled : (m n : ℕ) → n + m ≡ 64 → ((k : ℕ) → n ≤ k → k < 64 → length xs ≤ k) → padded 64 (resourceOf [] [] [] []) (listed from n) ≡ listed from 64
+    filled zero n e h = let z : n ≡ 64 = omega arith in ap (λ (k : ℕ). padded 64 (resourceOf [] [] [] []) (listed from k)) z ∙ padded-full 64 (resourceOf [] [] [] []) from
+    filled (suc m) n e h =
+        let l : n < 64 = omega arith in
+        padded-kept 64 (resourceOf [] [] [] []) from n l (past n l (h n (le-refl n) l)) ∙ filled m (suc n) (omega arith) (λ k i j. h k (omega arith) j)
+
+    pub list-is : listFrom os (kept 64 (bidOf (pos 0) []) (map (bidOf (pos 0)) ss)) (kept 64 (costsOf [] []) (map (λ ys. costsOf ys []) ps)) (kept 64 (costsOf [] []) (map (costsOf []) cs))
+        ≡ kept 64 (resourceOf [] [] [] []) (resourcesOf xs ss ps cs)
+    unfolding listFrom kept from
+    list-is =
+        let n = min (os .count) 64 in
+        filled (64 - n) n (omega arith) (λ k i j. omega (arith, ec))
+        ∙ sym (listed-is (resourceOf [] [] [] []) (kept 64 (resourceOf [] [] [] []) (resourcesOf xs ss ps cs)) _ 64 (kept-length 64 (resourceOf [] [] [] []) (resourcesOf xs ss ps cs))
+        (λ k h. sets-read 64 (resourceOf [] [] [] []) (resourcesOf xs ss ps cs) k h ∙ resources-at xs ss ps cs a b c k ∙ sym (resource-is k h)))
 
 -- an answer that is a faulty line's number alone
 alone-of : (r : OpeningRead) (f : ℕ) → r ≡ faultAlone f → r ≡ aloneIf f r

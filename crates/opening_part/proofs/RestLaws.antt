@@ -181,7 +181,7 @@ module _ (month : ℤ) (pr rr : List Row) (ps : Portfolios) (os : Owners) (ep : 
   made-is : (steps points : List (List Row)) (costs : List Row) → length steps ≡ length rr → length points ≡ length rr → length costs ≡ length rr
       → made month ps os steps points costs ≡ openingOf month pr rr steps points costs
   unfolding openingOf
-  made-is steps points costs a b c = opening-by ep es eo (list-is rr steps points costs os eq et a b c)
+  made-is steps points costs a b c = opening-by ep es eo (list-is rr steps points costs os eo eq et a b c)
 
   pub rest-same : (n : ℕ) (ls : List Line) → readRest month ps os n ls ≡ lastThree (length rr) (openingOf month pr rr) n ls
   rest-same n ls =

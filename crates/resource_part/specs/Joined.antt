@@ -1,9 +1,9 @@
 -- A resource's values table by table, and the resource that they make.
-use Prim.Native.Nat.{ℕ}
+use Prim.Native.Nat.{ℕ, min}
 use mathlib.Core.List.{List, []}
 use lib.IntN.{ℤ, pos}
 use lib.ListN.{getD}
-use Rattle.number.specs.Over.{listed}
+use Rattle.number.specs.Over.{listed, padded}
 use Rattle.opening.specs.Openings.{noRaw, noCosts}
 use Rattle.curve.specs.declared.RawStep.{RawStep}
 use Rattle.curve.specs.declared.RawCurve.{RawCurve}
@@ -11,7 +11,7 @@ use Rattle.cost.specs.declared.Point.{Point}
 use Rattle.cost.specs.declared.Costs.{Costs}
 use Rattle.resource.specs.declared.Source.the-variants as source
 use Rattle.resource.specs.declared.Resource.{Resource}
-use Rattle.parts.specs.Parts.{bidOf}
+use Rattle.parts.specs.Parts.{bidOf, resourceOf}
 use Rattle.resource_part.specs.declared.Owners.{Owners}
 
 -- a bid with its steps alone
@@ -52,7 +52,10 @@ joined portfolio start bid points prices = record {
   pack = bidOf (pos 0) [];
 }
 
--- the first 64 resources
+-- resource k of these tables
+abbrev pub resourceFrom : List ℤ → List ℤ → List RawCurve → List Costs → List Costs → ℕ → Resource
+resourceFrom portfolio start bids points prices k = joined (getD portfolio k (pos 0)) (getD start k (pos 0)) (getD bids k noRaw) (getD points k noCosts) (getD prices k noCosts)
+
+-- the first 64 resources of those that are listed
 unfoldable pub listFrom : Owners → List RawCurve → List Costs → List Costs → List Resource
-listFrom os bids points prices =
-    listed (λ k. joined (getD (os .portfolio) k (pos 0)) (getD (os .start) k (pos 0)) (getD bids k noRaw) (getD points k noCosts) (getD prices k noCosts)) 64
+listFrom os bids points prices = padded 64 (resourceOf [] [] [] []) (listed (resourceFrom (os .portfolio) (os .start) bids points prices) (min (os .count) 64))

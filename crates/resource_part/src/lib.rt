@@ -11,6 +11,7 @@ use resource::Source;
 use text::lines::id_row_at;
 ghost use mathlib.Core.Path.{_≡_};
 ghost use mathlib.Core.List.{[], map};
+ghost use Prim.Native.Nat.{min};
 ghost use lib.ListN.{length, drop};
 ghost use lib.IntN.{pos};
 ghost use Rattle.number.specs.Order.{eqZ};
@@ -168,7 +169,17 @@ pub fn no_resource() -> Resource
     resource_of(0, 0, no_bid(), no_costs(), no_costs())
 }
 
-// The first 64 resources.
+fn at_most_room(count: usize) -> usize
+    ensures { λ n. ⌜ n ≡ min count 64 ⌝ }
+{
+    if count < Hour::MAX_RESOURCES {
+        count
+    } else {
+        Hour::MAX_RESOURCES
+    }
+}
+
+// The first 64 resources of those that are listed.
 pub fn list_of(
     owners: Owners,
     bids: [RawCurve; Hour::MAX_RESOURCES],
@@ -179,9 +190,10 @@ pub fn list_of(
 {
     let portfolio = owners.portfolio;
     let start = owners.start;
+    let n = at_most_room(owners.count);
     let mut list = [no_resource(); Hour::MAX_RESOURCES];
     let mut k: usize = 0;
-    while k < Hour::MAX_RESOURCES {
+    while k < n {
         let bid = bids[k];
         let heat = points[k];
         let price = prices[k];
