@@ -1,12 +1,12 @@
 // Numbers at an offset of a text. The contracts cite specs/Numbers and specs/Offsets.
 use std::num::wrapping_sub_u64;
 ghost use mathlib.Core.Path.{_≡_};
-ghost use mathlib.Core.Bool.{cond};
+ghost use mathlib.Core.Bool.{cond, _&&_};
 ghost use Prim.Native.Nat.{_+_, _^_, _<_, _≤_};
-ghost use lib.ListN.{length, take, drop};
+ghost use lib.ListN.{length, take, drop, getD};
 ghost use lib.Dec.{eqb};
 ghost use lib.IntN.{pos, negℤ};
-ghost use Rattle.text.specs.Numbers.{digitCount, value, magnitude};
+ghost use Rattle.text.specs.Numbers.{digitCount, value, formed, magnitude};
 ghost use Rattle.text.specs.Offsets.{numberAt};
 
 // A number with the offset after it, or no number.
@@ -22,9 +22,9 @@ pub enum Magnitude {
 }
 
 // What digits spell, and how many they are.
-struct Digits {
-    value: u64,
-    count: usize,
+pub struct Digits {
+    pub value: u64,
+    pub count: usize,
 }
 
 fn wide(b: u8) -> u64
@@ -34,7 +34,7 @@ fn wide(b: u8) -> u64
 }
 
 // The digits among the next `end` bytes from an offset, up to the first byte that is none.
-fn digits_in(s: &[u8], at: usize, end: usize) -> Digits
+pub(crate) fn digits_in(s: &[u8], at: usize, end: usize) -> Digits
     requires { ⌜ (end ≤ 13) × (at + end ≤ length (now s)) ⌝ }
     ensures { λ r. ⌜ r .value ≡ value 0 (take end (drop at (now (s .entry)))) ⌝ }
     ensures { λ r. ⌜ r .count ≡ digitCount (take end (drop at (now (s .entry)))) ⌝ }
@@ -67,22 +67,30 @@ fn digits_at(s: &[u8], at: usize) -> Digits
     digits_in(s, at, 13)
 }
 
-// The digits at an offset as a number: 1 to 12 of them, with no 0 in front.
+// Whether the count digits at an offset are a number: 1 to 12 of them, with no 0 in front.
+fn is_number(s: &[u8], at: usize, count: usize) -> bool
+    requires { ⌜ (1 < count → at < length (now s)) ⌝ }
+    ensures { λ r. ⌜ r ≡ formed (getD (now (s .entry)) at 0) count ⌝ }
+{
+    if count < 1 {
+        return false;
+    }
+    if 12 < count {
+        return false;
+    }
+    if count == 1 {
+        return true;
+    }
+    s[at] != 48
+}
+
+// The digits at an offset as a number.
 fn magnitude_at(s: &[u8], at: usize) -> Magnitude
     ensures { λ r. ⌜ r ≡ magnitude (drop at (now (s .entry))) ⌝ }
 {
     let digits = digits_at(s, at);
     let count = digits.count;
-    if count < 1 {
-        return Magnitude::None;
-    }
-    if 12 < count {
-        return Magnitude::None;
-    }
-    if count == 1 {
-        return Magnitude::Spells(digits.value, count);
-    }
-    if s[at] == 48 {
+    if !is_number(s, at, count) {
         return Magnitude::None;
     }
     Magnitude::Spells(digits.value, count)
@@ -95,14 +103,14 @@ fn sign_width(b: u8) -> usize
     if b == 45 { 1 } else { 0 }
 }
 
-fn plus(v: u64) -> i64
+pub(crate) fn plus(v: u64) -> i64
     requires { ⌜ v < 10 ^ 12 ⌝ }
     ensures { λ r. ⌜ r ≡ pos v ⌝ }
 {
     v as i64
 }
 
-fn minus(v: u64) -> i64
+pub(crate) fn minus(v: u64) -> i64
     requires { ⌜ v < 10 ^ 12 ⌝ }
     ensures { λ r. ⌜ r ≡ negℤ (pos v) ⌝ }
 {
@@ -129,4 +137,15 @@ pub fn number_at(s: &[u8], at: usize) -> Number
         return Number::Not;
     }
     Number::Is(minus(v), next)
+}
+
+// Whether the count digits at an offset are a number that the byte b closes.
+pub(crate) fn closes(s: &[u8], at: usize, count: usize, b: u8) -> bool
+    requires { ⌜ at + 12 < length (now s) ⌝ }
+    ensures { λ r. ⌜ r ≡ (formed (getD (now (s .entry)) at 0) count && eqb (getD (now (s .entry)) (at + count) 0) b) ⌝ }
+{
+    if !is_number(s, at, count) {
+        return false;
+    }
+    s[at + count] == b
 }
