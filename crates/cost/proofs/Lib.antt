@@ -1,7 +1,2 @@
--- Laws of the default curve from costs, its theorems and its examples.
-pub mod RangeLaws
-pub mod CostLaws
+-- Laws that the proofs of the code use.
 pub mod StepLaws
-pub mod RefusalLaws
-pub mod DefaultCurve
-pub mod Examples

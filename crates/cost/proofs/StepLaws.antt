@@ -7,18 +7,18 @@ use native.Mathlib.Numerals.{add-one}
 use native.Mathlib.Omega.{arith}
 use lib.IntN.{ℤ, pos, negℤ}
 use lib.ListN.{set}
-use Rattle.number.specs.Order.{maxZ, natOf}
-use Rattle.number.specs.Over.{allTo, listed, padded}
-use Rattle.number.proofs.OverLaws.{listed-length, padded-next, all-next, all-fails}
-use Rattle.curve.specs.Curves.{stepTo, blankStep}
-use Rattle.curve.specs.declared.Step.{Step}
-use Rattle.curve.specs.declared.Curve.{Curve}
-use Rattle.cost.specs.Costs.{pointAt, mwAt, stepCount, width, rateAt, withAdder, stepPrice, raisedPrice, largestRate, costStep, costCurve, rateInRange, pointsGood, mwGood, pricesInRange, ratesGood}
-use Rattle.number.proofs.HighestLaws.{highestFrom}
-use Rattle.cost.proofs.RangeLaws.{few}
-use Rattle.cost.proofs.CostLaws.{largest-from, raised-from}
-use Rattle.cost.specs.declared.Point.{Point}
-use Rattle.cost.specs.declared.Costs.{Costs}
+use Rattle.rules_number.specs.Order.{maxZ, natOf}
+use Rattle.rules_number.specs.Over.{allTo, listed, padded}
+use Rattle.rules_number.proofs.OverLaws.{listed-length, padded-next, all-next, all-fails}
+use Rattle.rules_curve.specs.Curves.{stepTo, blankStep}
+use Rattle.rules_curve.specs.declared.Step.{Step}
+use Rattle.rules_curve.specs.declared.Curve.{Curve}
+use Rattle.rules_cost.specs.Costs.{pointAt, mwAt, stepCount, width, rateAt, withAdder, stepPrice, raisedPrice, largestRate, costStep, costCurve, rateInRange, pointsGood, mwGood, pricesInRange, ratesGood}
+use Rattle.rules_number.proofs.HighestLaws.{highestFrom}
+use Rattle.rules_cost.proofs.RangeLaws.{few}
+use Rattle.rules_cost.proofs.CostLaws.{largest-from, raised-from}
+use Rattle.rules_cost.specs.declared.Point.{Point}
+use Rattle.rules_cost.specs.declared.Costs.{Costs}
 
 -- after i steps: the point reached, the largest rate M and the highest price p so far, and the steps stored
 pub record Stepped (c : Costs) (from : Point) (M p : ℤ) (steps : List Step) (i : ℕ) : Type 0 where

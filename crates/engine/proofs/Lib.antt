@@ -1,19 +1,2 @@
--- Laws of opening and interval; then demand 3 and the other theorems; the marked cases.
-pub mod WeightLaws
-pub mod LimitLaws
-pub mod FloorLaws
-pub mod AnswerLaws
-pub mod CellLaws
-pub mod RisingLaws
-pub mod AcceptedOpening
-pub mod MarketLaws
-pub mod KeptLaws
-pub mod CallLaws
-pub mod Caps
-pub mod CurveShape
-pub mod Demand3
-pub mod IntervalStep
-pub mod FourIntervals
-pub mod CaseT
-pub mod Marked
-pub mod WorkedHour
+-- What the decoding of an hour means.
+pub mod Decoding

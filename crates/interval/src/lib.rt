@@ -1,25 +1,13 @@
-// An interval as it is read, and its checks (paper 01, Interval and hour: Limits; Refused, by place). The contracts cite specs/Intervals.
+// The checks of an interval (paper 01, Interval and hour: Limits; Refused, by place). The contracts cite the definitions of rules_interval.
 ghost use mathlib.Core.Path.{_≡_};
 ghost use Prim.Native.Nat.{_≤_};
 ghost use lib.ListN.{length};
-ghost use Rattle.curve.specs.Refusals.{outcomeNumber};
-ghost use Rattle.interval.specs.Intervals.{allWithin, factorsGood, rangesGood, outputGood, outputsGood, intervalOf, intervalRefusal};
-use curve::Curve;
-use curve::Outcome;
-use curve::Refusal;
-
-// An interval as it is read: counts may be more than the room. The factor of resource r on constraint c stands at r * 32 + c.
-pub struct Interval {
-    pub constraints: usize,
-    pub shadow: [i64; Interval::MAX_CONSTRAINTS],
-    pub resources: usize,
-    pub lmp: [i64; Interval::MAX_RESOURCES],
-    pub dispatch: [i64; Interval::MAX_RESOURCES],
-    pub available: [i64; Interval::MAX_RESOURCES],
-    pub floor: [i64; Interval::MAX_RESOURCES],
-    pub factors: [i64; Interval::MAX_FACTORS],
-    pub parameter: i64,
-}
+ghost use Rattle.rules_curve.specs.Refusals.{outcomeNumber};
+ghost use Rattle.rules_interval.specs.Intervals.{allWithin, factorsGood, rangesGood, outputGood, outputsGood, intervalOf, intervalRefusal};
+use rules_curve::Curve;
+use rules_curve::Outcome;
+use rules_curve::Refusal;
+use rules_interval::Interval;
 
 // Whether the first n numbers lie between lo and hi.
 fn all_within(numbers: &[i64], n: usize, lo: i64, hi: i64) -> bool
@@ -110,51 +98,35 @@ fn ranges_good<'a>(
     factors_good(factors, n, m)
 }
 
-impl Interval {
-    pub const MAX_CONSTRAINTS: usize = 32;
-
-    pub const MAX_RESOURCES: usize = 64;
-
-    pub const MAX_FACTORS: usize = 2048;
-
-    pub const MAX_SHADOW: i64 = 100_000_000;
-
-    pub const MAX_LMP: i64 = 100_000_000;
-
-    pub const MAX_PARAMETER: i64 = 100;
-
-    pub const MAX_FACTOR: i64 = 1_000_000;
-
-    // The lowest of 13 to 16 that applies to an interval of these values in an hour of `known` resources, or none. The arrays are lent, since they are large.
-    pub fn checked<'a>(
-        known: usize,
-        constraints: usize,
-        shadow: &'a [i64; Interval::MAX_CONSTRAINTS],
-        resources: usize,
-        lmp: &'a [i64; Interval::MAX_RESOURCES],
-        dispatch: &'a [i64; Interval::MAX_RESOURCES],
-        available: &'a [i64; Interval::MAX_RESOURCES],
-        floor: &'a [i64; Interval::MAX_RESOURCES],
-        factors: &'a [i64; Interval::MAX_FACTORS],
-        parameter: i64,
-    ) -> Outcome
-        ensures { λ r. ⌜ outcomeNumber r ≡ intervalRefusal known (intervalOf constraints (now (shadow .entry)) resources (now (lmp .entry)) (now (dispatch .entry)) (now (available .entry)) (now (floor .entry)) (now (factors .entry)) parameter) ⌝ }
-    {
-        if resources != known {
-            return Outcome::Refused(Refusal::ResourceCount);
-        }
-        if Interval::MAX_RESOURCES < resources {
-            return Outcome::Refused(Refusal::ResourceCount);
-        }
-        if Interval::MAX_CONSTRAINTS < constraints {
-            return Outcome::Refused(Refusal::ConstraintCount);
-        }
-        if !ranges_good(shadow, lmp, parameter, factors, resources, constraints) {
-            return Outcome::Refused(Refusal::IntervalRange);
-        }
-        if !outputs_good(available, floor, dispatch, resources) {
-            return Outcome::Refused(Refusal::Output);
-        }
-        Outcome::Accepted
+// The lowest of 13 to 16 that applies to an interval of these values in an hour of `known` resources, or none. The arrays are lent, since they are large.
+pub fn checked<'a>(
+    known: usize,
+    constraints: usize,
+    shadow: &'a [i64; Interval::MAX_CONSTRAINTS],
+    resources: usize,
+    lmp: &'a [i64; Interval::MAX_RESOURCES],
+    dispatch: &'a [i64; Interval::MAX_RESOURCES],
+    available: &'a [i64; Interval::MAX_RESOURCES],
+    floor: &'a [i64; Interval::MAX_RESOURCES],
+    factors: &'a [i64; Interval::MAX_FACTORS],
+    parameter: i64,
+) -> Outcome
+    ensures { λ r. ⌜ outcomeNumber r ≡ intervalRefusal known (intervalOf constraints (now (shadow .entry)) resources (now (lmp .entry)) (now (dispatch .entry)) (now (available .entry)) (now (floor .entry)) (now (factors .entry)) parameter) ⌝ }
+{
+    if resources != known {
+        return Outcome::Refused(Refusal::ResourceCount);
     }
+    if Interval::MAX_RESOURCES < resources {
+        return Outcome::Refused(Refusal::ResourceCount);
+    }
+    if Interval::MAX_CONSTRAINTS < constraints {
+        return Outcome::Refused(Refusal::ConstraintCount);
+    }
+    if !ranges_good(shadow, lmp, parameter, factors, resources, constraints) {
+        return Outcome::Refused(Refusal::IntervalRange);
+    }
+    if !outputs_good(available, floor, dispatch, resources) {
+        return Outcome::Refused(Refusal::Output);
+    }
+    Outcome::Accepted
 }

@@ -1,7 +1,7 @@
 // Reads a text from standard input, and writes what running it prints to standard output.
 use libc::STDIN_FILENO;
 use libc::STDOUT_FILENO;
-use run::Ran;
+use rules_run::Ran;
 
 // Runs the text, and writes the bytes that it printed on the lent page.
 fn print(text: &[u8], page: &mut [u8]) {

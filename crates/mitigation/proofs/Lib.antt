@@ -1,7 +1,2 @@
--- Laws of mitigated curves, the theorems on them, and worked examples.
-pub mod SegmentLaws
-pub mod MitigationLaws
-pub mod FallLaws
+-- Laws that the proofs of the code use.
 pub mod Walk
-pub mod MitigatedCurve
-pub mod Examples

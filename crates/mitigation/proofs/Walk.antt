@@ -9,14 +9,14 @@ use native.Mathlib.Numerals.{add-one}
 use lib.IntN.{ℤ}
 use lib.ListN.{length, drop, getD, set, replicate, length-append, drop-of-length-le}
 use lib.Seq.{drop-cons}
-use Rattle.number.specs.Order.{eqZ}
-use Rattle.number.specs.Over.{padded}
-use Rattle.number.proofs.OverLaws.{padded-more}
-use Rattle.curve.specs.Curves.{stepTo, blankStep}
-use Rattle.mitigation.specs.Mitigation.{segmentsN, segments, joined, joinedAfter, mitigatedOf}
-use Rattle.mitigation.proofs.SegmentLaws.{segments-skip, segments-default, segments-bid, joined-same, joined-other}
-use Rattle.curve.specs.declared.Step.{Step}
-use Rattle.mitigation.specs.declared.Mitigated.{Mitigated}
+use Rattle.rules_number.specs.Order.{eqZ}
+use Rattle.rules_number.specs.Over.{padded}
+use Rattle.rules_number.proofs.OverLaws.{padded-more}
+use Rattle.rules_curve.specs.Curves.{stepTo, blankStep}
+use Rattle.rules_mitigation.specs.Mitigation.{segmentsN, segments, joined, joinedAfter, mitigatedOf}
+use Rattle.rules_mitigation.proofs.SegmentLaws.{segments-skip, segments-default, segments-bid, joined-same, joined-other}
+use Rattle.rules_curve.specs.declared.Step.{Step}
+use Rattle.rules_mitigation.specs.declared.Mitigated.{Mitigated}
 
 -- what is left of the segments from the bid's step i and the default curve's step j on
 abbrev pub restOf : (ℤ → ℤ → ℤ) → List Step → List Step → ℕ → ℕ → ℕ → List Step

@@ -9,11 +9,11 @@ use lib.Dec.{leb}
 use lib.IntN.{ℤ, pos, negsuc}
 use lib.ListN.{length}
 use lib.Seq.{sets}
-use Rattle.curve.specs.Curves.{unlessRefused}
-use Rattle.curve.specs.declared.Curve.{Curve}
-use Rattle.cost.specs.Costs.{costRefusal, costCurve}
-use Rattle.cost.specs.declared.Costs.{Costs}
-use Rattle.noskjerf.specs.Slices.{edgesOf, pricesOf, hasRoom, defaultAnswer, ifWritten, edgesAfter, pricesAfter}
+use Rattle.rules_curve.specs.Curves.{unlessRefused}
+use Rattle.rules_curve.specs.declared.Curve.{Curve}
+use Rattle.rules_cost.specs.Costs.{costRefusal, costCurve}
+use Rattle.rules_cost.specs.declared.Costs.{Costs}
+use Rattle.rules_library.specs.Slices.{edgesOf, pricesOf, hasRoom, defaultAnswer, ifWritten, edgesAfter, pricesAfter}
 
 module _ (edges : List ℕ) (prices : List ℤ) (c : Costs) where
   -- the answer and the two slices are as they should be

@@ -1,5 +1,2 @@
--- Laws of what is read from lent slices and written to them.
-pub mod SliceLaws
+-- Laws that the proofs of the code use.
 pub mod DefaultLaws
-pub mod Meaning
-pub mod Examples

@@ -1,24 +1,50 @@
-// The engine for programs in other languages: functions on numbers and slices under C names. The contracts cite specs/Answers and specs/Slices.
-mod slices;
-
-use crate::slices::costs_in;
-use crate::slices::number_of;
-use crate::slices::put_edges;
-use crate::slices::put_prices;
-use crate::slices::steps_in;
-use curve::Outcome;
-use curve::RawCurve;
-use run::Ran;
+// The engine for programs in other languages: functions on numbers and slices under C names. The contracts cite the definitions of rules_library.
+use rules_curve::Curve;
+use rules_curve::Outcome;
+use rules_curve::RawCurve;
+use rules_run::Ran;
 ghost use mathlib.Core.Path.{_≡_};
-ghost use Rattle.curve.specs.Curves.{bidRefusal};
-ghost use Rattle.run.specs.Run.{output, ranWithin, ranTo, runRoom};
-ghost use Rattle.noskjerf.specs.Answers.{ranNumber};
-ghost use Rattle.noskjerf.specs.Slices.{rawBid, costsIn, defaultAnswer, edgesAfter, pricesAfter};
+ghost use Prim.Native.Nat.{_≤_};
+ghost use lib.ListN.{length};
+ghost use lib.Seq.{sets};
+ghost use Rattle.rules_curve.specs.Curves.{bidRefusal};
+ghost use Rattle.rules_run.specs.Run.{output, ranWithin, ranTo, runRoom};
+ghost use Rattle.rules_library.specs.Answers.{ranNumber};
+ghost use Rattle.rules_library.specs.Slices.{rawBid, costsIn, defaultAnswer, edgesAfter, pricesAfter, edgesOf, pricesOf};
 
 // How many numbers the slices lent to noskjerf_default have to have: the number of steps, the start and the ends of a curve, and its prices.
 const EDGES: usize = 12;
 
 const PRICES: usize = 10;
+
+// Puts the number of steps, the start and the ends of a curve at the front of a slice.
+fn put_edges(curve: Curve, edges: &mut [u64])
+    requires { ⌜ 12 ≤ length (now edges) ⌝ }
+    ensures { λ r. ⌜ now (edges .exit) ≡ sets (now (edges .entry)) 0 (edgesOf curve) ⌝ }
+{
+    edges[0] = curve.count as u64;
+    edges[1] = curve.start;
+    let mut i: usize = 0;
+    while i < Curve::MAX_STEPS {
+        let s = curve.steps[i];
+        edges[2 + i] = s.end;
+        i += 1;
+    }
+}
+
+// Puts the prices of a curve at the front of a slice.
+fn put_prices(curve: Curve, prices: &mut [i64])
+    requires { ⌜ 10 ≤ length (now prices) ⌝ }
+    ensures { λ r. ⌜ now (prices .exit) ≡ sets (now (prices .entry)) 0 (pricesOf curve) ⌝ }
+{
+    let mut i: usize = 0;
+    while i < Curve::MAX_STEPS {
+        let s = curve.steps[i];
+        let price = s.price;
+        prices[i] = price;
+        i += 1;
+    }
+}
 
 // How many bytes a page lent to noskjerf_run has to have.
 #[no_mangle]
@@ -50,11 +76,11 @@ pub extern "C" fn noskjerf_bid(month: u64, start: i64, count: usize, steps: &[i6
     let bid = RawCurve {
         start,
         count,
-        steps: steps_in(steps),
+        steps: slices::steps_in(steps),
     };
-    let checked = bid.checked_bid(month);
+    let checked = curve_checks::checked_bid(bid, month);
     let outcome = checked.outcome;
-    number_of(outcome)
+    curve::outcome_number(outcome)
 }
 
 // The default energy bid from costs. `points` has quantity and heat rate of each point in turn, `charges` gas, rate, allowance, om, msc, soc and fee, and numbers
@@ -78,11 +104,11 @@ pub extern "C" fn noskjerf_default(
     if prices.len() < PRICES {
         return -1;
     }
-    let costs = costs_in(count, points, charges);
-    let checked = costs.default_curve();
+    let costs = slices::costs_in(count, points, charges);
+    let checked = cost::default_curve(costs);
     let outcome = checked.outcome;
     if let Outcome::Refused(refusal) = outcome {
-        return refusal.number() as i64;
+        return curve::refusal_number(refusal) as i64;
     }
     let curve = checked.curve;
     put_edges(curve, edges);

@@ -1,2 +1,2 @@
--- Laws of the definitions of specs/.
+-- Laws that the proofs of the code use.
 pub mod OpeningLaws

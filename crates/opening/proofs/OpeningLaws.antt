@@ -10,17 +10,17 @@ use borrow.Author.Tests.{leb-true}
 use lib.Dec.{leb}
 use lib.IntN.{ℤ, pos}
 use lib.ListN.{set}
-use Rattle.number.specs.Order.{inRange, natOf}
-use Rattle.number.specs.Over.{allTo, listed}
-use Rattle.number.proofs.OverLaws.{both, last-or-before, all-same, listed-at, listed-length, listed-same, padded-at, padded-next}
-use Rattle.curve.specs.Refusals.{_then_, eachTo}
-use Rattle.interval.specs.Intervals.{cell}
-use Rattle.opening.specs.Openings.{resourceAt, countsGood, isMark, isKnown, sellersGood, ownersGood, ownersIn, wholes, openingRefusal, blankMarket, marketOf, marketUnless, blankRows, rowsUnless}
-use Rattle.opening.specs.declared.Opening.{Opening}
-use Rattle.path.specs.declared.Market.{Market}
-use Rattle.resource.specs.declared.Row.{Row}
-use Rattle.resource.specs.Resources.{resourceRefusal}
-use Rattle.resource.proofs.ResourceLaws.{then-first}
+use Rattle.rules_number.specs.Order.{inRange, natOf}
+use Rattle.rules_number.specs.Over.{allTo, listed}
+use Rattle.rules_number.proofs.OverLaws.{both, last-or-before, all-same, listed-at, listed-length, listed-same, padded-at, padded-next}
+use Rattle.rules_curve.specs.Refusals.{_then_, eachTo}
+use Rattle.rules_interval.specs.Intervals.{cell}
+use Rattle.rules_opening.specs.Openings.{resourceAt, countsGood, isMark, isKnown, sellersGood, ownersGood, ownersIn, wholes, openingRefusal, blankMarket, marketOf, marketUnless, blankRows, rowsUnless}
+use Rattle.rules_opening.specs.declared.Opening.{Opening}
+use Rattle.rules_path.specs.declared.Market.{Market}
+use Rattle.rules_opening.specs.declared.Row.{Row}
+use Rattle.rules_opening.specs.Resources.{resourceRefusal}
+use Rattle.rules_opening.proofs.ResourceLaws.{then-first}
 
 -- a loop's turn, and its early end
 module _ (f : ℕ → ℕ) where

@@ -1,48 +1,40 @@
-// What an hour is opened from, and its checks (paper 01, Refused, by place: 9, then 10, then each resource in number order).
-// The contracts cite specs/Openings.
-use curve::Outcome;
-use curve::Refusal;
-use interval::Interval;
-use path::Market;
-use resource::Resource;
-use resource::Row;
+// The checks of what an hour is opened from (paper 01, Refused, by place: 9, then 10, then each resource in number order).
+// The contracts cite the definitions of rules_opening.
+use rules_curve::Outcome;
+use rules_curve::Refusal;
+use rules_interval::Interval;
+use rules_opening::Opening;
+use rules_opening::Resource;
+use rules_opening::Row;
+use rules_path::Market;
 ghost use mathlib.Core.Path.{_≡_};
 ghost use Prim.Native.Nat.{_≤_};
-ghost use Rattle.number.specs.Order.{natOf};
-ghost use Rattle.number.specs.Over.{allTo};
-ghost use Rattle.curve.specs.Refusals.{outcomeNumber, eachTo};
-ghost use Rattle.interval.specs.Intervals.{cell};
-ghost use Rattle.resource.specs.Resources.{resourceRefusal};
-ghost use Rattle.opening.specs.Openings.{resourceAt, ownersIn, wholes, countsWithin, isMark, isKnown, openingRefusal, blankMarket, marketOf, marketUnless, blankRows, rowsOf, rowsUnless};
-
-// What an hour is opened from: counts may be more than the room.
-pub struct Opening {
-    pub month: i64,
-    pub portfolios: usize,
-    pub sellers: [i64; Market::MAX_PORTFOLIOS],
-    pub resources: usize,
-    pub list: [Resource; Interval::MAX_RESOURCES],
-}
+ghost use Rattle.rules_number.specs.Order.{natOf};
+ghost use Rattle.rules_number.specs.Over.{allTo};
+ghost use Rattle.rules_curve.specs.Refusals.{outcomeNumber, eachTo};
+ghost use Rattle.rules_interval.specs.Intervals.{cell};
+ghost use Rattle.rules_opening.specs.Resources.{resourceRefusal};
+ghost use Rattle.rules_opening.specs.Openings.{resourceAt, ownersIn, wholes, countsWithin, isMark, isKnown, openingRefusal, blankMarket, marketOf, marketUnless, blankRows, rowsOf, rowsUnless};
 
 // What the checks answer: who owns what and a row for each resource, or blank ones and the refusal.
-pub struct Entered {
+pub struct Entry {
     pub outcome: Outcome,
     pub market: Market,
     pub rows: [Row; Interval::MAX_RESOURCES],
 }
 
 // A refusal returns its number alone: market and rows are blank.
-fn refused(outcome: Outcome) -> Entered
+fn refused(outcome: Outcome) -> Entry
     ensures { λ r. ⌜ (r .outcome ≡ outcome) × ((r .market ≡ blankMarket) × (r .rows ≡ blankRows)) ⌝ }
 {
-    Entered {
+    Entry {
         outcome: outcome,
         market: Market {
             resources: 0,
             portfolio: [0; Interval::MAX_RESOURCES],
             seller: [0; Market::MAX_PORTFOLIOS],
         },
-        rows: [Row::blank(); Interval::MAX_RESOURCES],
+        rows: [resource::blank_row(); Interval::MAX_RESOURCES],
     }
 }
 
@@ -147,64 +139,63 @@ fn whole_owners(owners: &[i64; Interval::MAX_RESOURCES], n: usize) -> [u64; Inte
     portfolio
 }
 
-impl Opening {
-    pub const MAX_MONTH: i64 = 1_200;
-
-    // The market and the rows, or the first refusal of a resource in number order.
-    fn filled(self, market: Market) -> Entered
-        requires { ⌜ self .resources ≤ 64 ⌝ }
-        ensures number { λ r. ⌜ outcomeNumber (r .outcome) ≡ eachTo (λ k. resourceRefusal (natOf (self .month)) (resourceAt self k)) (self .resources) ⌝ }
-        ensures market { λ r. ⌜ r .market ≡ marketUnless (eachTo (λ k. resourceRefusal (natOf (self .month)) (resourceAt self k)) (self .resources)) market ⌝ }
-        ensures rows { λ r. ⌜ r .rows ≡ rowsUnless (eachTo (λ k. resourceRefusal (natOf (self .month)) (resourceAt self k)) (self .resources)) (rowsOf self) ⌝ }
-    {
-        let n = self.resources;
-        let month = number::whole(self.month);
-        let mut rows = [Row::blank(); Interval::MAX_RESOURCES];
-        let mut r: usize = 0;
-        while r < n {
-            let resource = self.list[r];
-            let opened = resource.opened(month);
-            let outcome = opened.outcome;
-            let Outcome::Accepted = outcome else {
-                return refused(outcome);
-            };
-            let row = opened.row;
-            rows[r] = row;
-            r += 1;
-        }
-        Entered {
-            outcome: Outcome::Accepted,
-            market: market,
-            rows: rows,
-        }
+// The market and the rows, or the first refusal of a resource in number order.
+fn filled(o: Opening, market: Market) -> Entry
+    requires { ⌜ o .resources ≤ 64 ⌝ }
+    ensures number { λ r. ⌜ outcomeNumber (r .outcome) ≡ eachTo (λ k. resourceRefusal (natOf (o .month)) (resourceAt o k)) (o .resources) ⌝ }
+    ensures market { λ r. ⌜ r .market ≡ marketUnless (eachTo (λ k. resourceRefusal (natOf (o .month)) (resourceAt o k)) (o .resources)) market ⌝ }
+    ensures rows { λ r. ⌜ r .rows ≡ rowsUnless (eachTo (λ k. resourceRefusal (natOf (o .month)) (resourceAt o k)) (o .resources)) (rowsOf o) ⌝ }
+{
+    let n = o.resources;
+    let month = number::whole(o.month);
+    let mut rows = [resource::blank_row(); Interval::MAX_RESOURCES];
+    let mut r: usize = 0;
+    while r < n {
+        let listed = o.list[r];
+        let opened = resource::opened(listed, month);
+        let outcome = opened.outcome;
+        let Outcome::Accepted = outcome else {
+            return refused(outcome);
+        };
+        let row = opened.row;
+        rows[r] = row;
+        r += 1;
     }
+    Entry {
+        outcome: Outcome::Accepted,
+        market: market,
+        rows: rows,
+    }
+}
 
-    // Who owns what and a row for each resource, or the first refusal. An opening is large: each check gets only the numbers that it reads.
-    pub fn entered(self) -> Entered
-        ensures number { λ r. ⌜ outcomeNumber (r .outcome) ≡ openingRefusal self ⌝ }
-        ensures market { λ r. ⌜ r .market ≡ marketUnless (openingRefusal self) (marketOf self) ⌝ }
-        ensures rows { λ r. ⌜ r .rows ≡ rowsUnless (openingRefusal self) (rowsOf self) ⌝ }
-    {
-        let portfolios = self.portfolios;
-        let resources = self.resources;
-        if !counts_good(self.month, portfolios, resources) {
-            return refused(Outcome::Refused(Refusal::Counts));
-        }
-        let sellers = self.sellers;
-        if !sellers_good(&sellers, portfolios) {
-            return refused(Outcome::Refused(Refusal::Membership));
-        }
-        let list = self.list;
-        let owners = owners_of(list, resources);
-        if !owners_good(&owners, resources, portfolios) {
-            return refused(Outcome::Refused(Refusal::Membership));
-        }
-        let portfolio = whole_owners(&owners, resources);
-        let seller = marks(&sellers, portfolios);
-        self.filled(Market {
+// Who owns what and a row for each resource, or the first refusal. An opening is large: each check gets only the numbers that it reads.
+pub fn entered(o: Opening) -> Entry
+    ensures number { λ r. ⌜ outcomeNumber (r .outcome) ≡ openingRefusal o ⌝ }
+    ensures market { λ r. ⌜ r .market ≡ marketUnless (openingRefusal o) (marketOf o) ⌝ }
+    ensures rows { λ r. ⌜ r .rows ≡ rowsUnless (openingRefusal o) (rowsOf o) ⌝ }
+{
+    let portfolios = o.portfolios;
+    let resources = o.resources;
+    if !counts_good(o.month, portfolios, resources) {
+        return refused(Outcome::Refused(Refusal::Counts));
+    }
+    let sellers = o.sellers;
+    if !sellers_good(&sellers, portfolios) {
+        return refused(Outcome::Refused(Refusal::Membership));
+    }
+    let list = o.list;
+    let owners = owners_of(list, resources);
+    if !owners_good(&owners, resources, portfolios) {
+        return refused(Outcome::Refused(Refusal::Membership));
+    }
+    let portfolio = whole_owners(&owners, resources);
+    let seller = marks(&sellers, portfolios);
+    filled(
+        o,
+        Market {
             resources: resources,
             portfolio: portfolio,
             seller: seller,
-        })
-    }
+        },
+    )
 }

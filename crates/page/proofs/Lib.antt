@@ -1,4 +1,2 @@
--- Laws of the definitions of specs/, and case T's page.
+-- Laws that the proofs of the code use.
 pub mod PageLaws
-pub mod SameValues
-pub mod Examples

@@ -10,17 +10,17 @@ use native.Mathlib.Numerals.{add-one}
 use lib.ListN.{length, drop, take, getD, length-append, length-take, drop-of-length-le}
 use lib.Seq.{sets, length-sets}
 use lib.IntN.{pos}
-use Rattle.number.specs.Over.{those}
-use Rattle.text.specs.Numbers.{Row}
-use Rattle.path.specs.Verdicts.{findingNumber, isNamed}
-use Rattle.path.specs.declared.Finding.{Finding}
-use Rattle.path.specs.declared.Finding.the-variants.{Competitive, NonCompetitive, NotBinding}
-use Rattle.path.specs.declared.Verdict.{Verdict}
-use Rattle.page.specs.Pages.{printable, sellerRow, sellersNamed, hasRoom, putWithin, putWithinTo}
-use Rattle.print.specs.Printing.{lineText, groupText, tableText, printed, printedTo}
-use Rattle.print.specs.declared.Printed.{Printed}
-use Rattle.print.specs.declared.Printed.the-variants.{To, Full}
-use Rattle.text.proofs.ListLaws.{at-cons, sets-append}
+use Rattle.rules_number.specs.Over.{those}
+use Rattle.rules_text.specs.Numbers.{Row}
+use Rattle.rules_path.specs.Verdicts.{findingNumber, isNamed}
+use Rattle.rules_path.specs.declared.Finding.{Finding}
+use Rattle.rules_path.specs.declared.Finding.the-variants.{Competitive, NonCompetitive, NotBinding}
+use Rattle.rules_path.specs.declared.Verdict.{Verdict}
+use Rattle.rules_page.specs.Pages.{printable, sellerRow, sellersNamed, hasRoom, putWithin, putWithinTo}
+use Rattle.rules_text.specs.Printing.{lineText, groupText, tableText, printed, printedTo}
+use Rattle.rules_text.specs.declared.Printed.{Printed}
+use Rattle.rules_text.specs.declared.Printed.the-variants.{To, Full}
+use Rattle.rules_text.proofs.ListLaws.{at-cons, sets-append}
 
 -- a text put piece by piece: what is left of it, put at p, is the whole
 pub record Putting (out : List ℕ) (at : ℕ) (text : List ℕ) (now : List ℕ) (p : ℕ) (rest : List ℕ) : Type 0 where

@@ -1,25 +1,23 @@
-// The page of an accepted interval and the lines of a refusal (paper 01, Text), put into a lent buffer at an offset. The contracts cite specs/Pages.
-use engine::Floor;
-use engine::Hour;
-use interval::Interval;
-use mitigation::Mitigated;
-use path::Finding;
-use path::Market;
-use path::Verdict;
-use print::Printed;
-use resource::Row;
+// The page of an accepted interval and the lines of a refusal (paper 01, Text), put into a lent buffer at an offset. The contracts cite the definitions of rules_page.
+use rules_hour::Floor;
+use rules_interval::Interval;
+use rules_mitigation::Mitigated;
+use rules_opening::Row;
+use rules_path::Finding;
+use rules_path::Market;
+use rules_path::Verdict;
+use rules_text::Printed;
 ghost use mathlib.Core.Path.{_≡_};
 ghost use mathlib.Core.List.{_∷_, [], map};
-ghost use Prim.Native.Nat.{_+_, _<_, _≤_, min};
-ghost use lib.Dec.{leb};
+ghost use Prim.Native.Nat.{_+_, _<_, _≤_};
 ghost use lib.IntN.{pos};
 ghost use lib.ListN.{length};
 ghost use lib.Seq.{sets};
-ghost use Rattle.mitigation.specs.Mitigation.{usedSteps};
-ghost use Rattle.print.specs.Printing.{lineText, groupText, refusalText};
-ghost use Rattle.page.specs.Pages.{printable as printableOf};
-ghost use Rattle.page.specs.Pages.{shown as shownOf};
-ghost use Rattle.page.specs.Pages.{stepRow, verdictRow, sellersNamed, verdictTable, sellerTable, curveTable, verdictText, curveText, Put, verdictRoom, curveRoom, refusalRoom, putWithin, putWithinTo};
+ghost use Rattle.rules_mitigation.specs.Mitigation.{usedSteps};
+ghost use Rattle.rules_text.specs.Printing.{lineText, groupText, refusalText};
+ghost use Rattle.rules_page.specs.Pages.{printable as printableOf};
+ghost use Rattle.rules_page.specs.Pages.{shown as shownOf};
+ghost use Rattle.rules_page.specs.Pages.{stepRow, verdictRow, sellersNamed, verdictTable, sellerTable, curveTable, verdictText, curveText, Put, verdictRoom, curveRoom, refusalRoom, putWithin, putWithinTo};
 
 // Verdicts and the sellers named are put where at least this many bytes are left.
 pub const VERDICT_ROOM: usize = 49_152;
@@ -38,21 +36,6 @@ fn printable(n: u64) -> i64
         return n as i64;
     }
     9_223_372_036_854_775_807
-}
-
-fn at_most(n: usize, most: usize) -> usize
-    ensures { λ r. ⌜ r ≡ min n most ⌝ }
-{
-    if n < most { n } else { most }
-}
-
-fn has_room(length: usize, at: usize, room: usize) -> bool
-    ensures { λ r. ⌜ r ≡ leb (at + room) length ⌝ }
-{
-    if length < at {
-        return false;
-    }
-    room <= length - at
 }
 
 // Puts a names line at an offset, and answers the offset after it.
@@ -86,7 +69,7 @@ fn shown(v: Verdict) -> Verdict
     match finding {
         Finding::Competitive => v,
         Finding::NonCompetitive => v,
-        Finding::NotBinding => Verdict::not_binding(),
+        Finding::NotBinding => verdict::not_binding(),
     }
 }
 
@@ -95,7 +78,7 @@ fn put_steps(out: &mut [u8], at: usize, i: u64, r: u64, curve: Mitigated) -> usi
     requires { ⌜ (at + 1596 ≤ length (now out)) × (r < 64) ⌝ }
     ensures { λ q. ⌜ Put 1596 (now (out .entry)) at (groupText (printableOf i) r (map stepRow (usedSteps curve))) (now (out .exit)) q ⌝ }
 {
-    let n = at_most(curve.count, Mitigated::MAX_STEPS);
+    let n = number::at_most(curve.count, Mitigated::MAX_STEPS);
     let mut p = at;
     let mut s: usize = 0;
     while s < n {
@@ -115,7 +98,7 @@ fn put_verdict(out: &mut [u8], at: usize, i: u64, c: u64, v: Verdict) -> usize
     let row = [
         printable(i),
         printable(c),
-        printable(finding.number()),
+        printable(verdict::finding_number(finding)),
         printable(v.demand),
         printable(v.left),
     ];
@@ -136,7 +119,7 @@ fn put_verdicts(
     requires { ⌜ at + 3360 ≤ length (now out) ⌝ }
     ensures { λ q. ⌜ Put 3360 (now (out .entry)) at (verdictTable i constraints verdicts) (now (out .exit)) q ⌝ }
 {
-    let n = at_most(constraints, Interval::MAX_CONSTRAINTS);
+    let n = number::at_most(constraints, Interval::MAX_CONSTRAINTS);
     let mut p = at;
     let mut c: usize = 0;
     while c < n {
@@ -156,7 +139,7 @@ fn put_named(out: &mut [u8], at: usize, i: u64, c: u64, v: Verdict) -> usize
     let mut p: usize = 0;
     while p < Market::MAX_PORTFOLIOS {
         let amount = v.withheld[p];
-        if v.names(p as u64) {
+        if verdict::names(v, p as u64) {
             q = put_four(out, q, i, c, p as u64, printable(amount));
         }
         p += 1;
@@ -175,7 +158,7 @@ fn put_sellers(
     requires { ⌜ at + 43008 ≤ length (now out) ⌝ }
     ensures { λ q. ⌜ Put 43008 (now (out .entry)) at (sellerTable i constraints verdicts) (now (out .exit)) q ⌝ }
 {
-    let n = at_most(constraints, Interval::MAX_CONSTRAINTS);
+    let n = number::at_most(constraints, Interval::MAX_CONSTRAINTS);
     let mut p = at;
     let mut c: usize = 0;
     while c < n {
@@ -192,19 +175,19 @@ fn put_curves(
     at: usize,
     i: u64,
     resources: usize,
-    rows: [Row; Hour::MAX_RESOURCES],
-    floors: [Floor; Hour::MAX_RESOURCES],
+    rows: [Row; Interval::MAX_RESOURCES],
+    floors: [Floor; Interval::MAX_RESOURCES],
 ) -> usize
     requires { ⌜ at + 102144 ≤ length (now out) ⌝ }
     ensures { λ q. ⌜ Put 102144 (now (out .entry)) at (curveTable i resources rows floors) (now (out .exit)) q ⌝ }
 {
-    let n = at_most(resources, Hour::MAX_RESOURCES);
+    let n = number::at_most(resources, Interval::MAX_RESOURCES);
     let mut p = at;
     let mut r: usize = 0;
     while r < n {
         let row = rows[r];
         let floor = floors[r];
-        p = put_steps(out, p, i, r as u64, engine::row_curve(row, floor));
+        p = put_steps(out, p, i, r as u64, standing::row_curve(row, floor));
         r += 1;
     }
     p
@@ -222,7 +205,7 @@ pub fn print_verdicts(
     ensures next { λ r. ⌜ r ≡ putWithinTo verdictRoom (now (out .entry)) at (verdictText i constraints verdicts) ⌝ }
     ensures whole { λ r. ⌜ (at + verdictRoom ≤ length (now (out .entry)) → length (verdictText i constraints verdicts) ≤ verdictRoom) ⌝ }
 {
-    if !has_room(out.len(), at, VERDICT_ROOM) {
+    if !number::has_room(out.len(), at, VERDICT_ROOM) {
         return Printed::Full;
     }
     let a = put_names(out, at, b"interval constraint verdict demand left\n");
@@ -237,14 +220,14 @@ pub fn print_curves(
     at: usize,
     i: u64,
     resources: usize,
-    rows: [Row; Hour::MAX_RESOURCES],
-    floors: [Floor; Hour::MAX_RESOURCES],
+    rows: [Row; Interval::MAX_RESOURCES],
+    floors: [Floor; Interval::MAX_RESOURCES],
 ) -> Printed
     ensures buffer { λ r. ⌜ now (out .exit) ≡ putWithin curveRoom (now (out .entry)) at (curveText i resources rows floors) ⌝ }
     ensures next { λ r. ⌜ r ≡ putWithinTo curveRoom (now (out .entry)) at (curveText i resources rows floors) ⌝ }
     ensures whole { λ r. ⌜ (at + curveRoom ≤ length (now (out .entry)) → length (curveText i resources rows floors) ≤ curveRoom) ⌝ }
 {
-    if !has_room(out.len(), at, CURVE_ROOM) {
+    if !number::has_room(out.len(), at, CURVE_ROOM) {
         return Printed::Full;
     }
     let next = put_names(out, at, b"interval resource end price\n");
@@ -256,7 +239,7 @@ pub fn print_refusal(out: &mut [u8], at: usize, number: u64, line: u64) -> Print
     ensures buffer { λ r. ⌜ now (out .exit) ≡ putWithin refusalRoom (now (out .entry)) at (refusalText (printableOf number) (printableOf line)) ⌝ }
     ensures next { λ r. ⌜ r ≡ putWithinTo refusalRoom (now (out .entry)) at (refusalText (printableOf number) (printableOf line)) ⌝ }
 {
-    if !has_room(out.len(), at, REFUSAL_ROOM) {
+    if !number::has_room(out.len(), at, REFUSAL_ROOM) {
         return Printed::Full;
     }
     let next = put_names(out, at, b"refusal line\n");

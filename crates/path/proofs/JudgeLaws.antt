@@ -8,14 +8,16 @@ use native.Mathlib.Nat.{le-refl, le-trans, le-of-eq, eq-zero-or-pos}
 use native.Mathlib.Omega.{arith}
 use lib.Dec.{ltb, eqb}
 use lib.IntN.{ℤ, pos}
-use Rattle.number.proofs.OverLaws.{listed-at, listed-same}
-use Rattle.path.specs.declared.Finding.{Finding}
-use Rattle.path.specs.declared.Finding.the-variants as finding
+use Rattle.rules_number.proofs.OverLaws.{listed-at, listed-same}
+use Rattle.rules_path.specs.declared.Finding.{Finding}
+use Rattle.rules_path.specs.declared.Finding.the-variants as finding
 use Rattle.path.specs.declared.constraint.Tally.{Tally}
 use Rattle.path.specs.declared.constraint.Top.{Top}
-use Rattle.path.specs.Paths.{Path, binds, demand, supply, share, withholdable, offer, offers, at, top, total, sellers, named, left, isNonCompetitive}
-use Rattle.path.specs.Verdicts.{pathOf, tallyOf, offersOf, topOf, Sound, Held, verdictOf, notBinding}
-use Rattle.path.proofs.PathLaws.{seller-of-offer, withheld-le-supply, sellers-possible}
+use Rattle.rules_path.specs.Paths.{Path, binds, demand, supply, share, withholdable, offer, offers, at, top, total, sellers, named, left, isNonCompetitive}
+use Rattle.rules_path.specs.Verdicts.{pathOf, verdictOf, notBinding}
+use Rattle.path.specs.Tallies.{tallyOf, topOf, Sound, Held}
+use Rattle.verdict.specs.Offers.{offersOf}
+use Rattle.rules_path.proofs.PathLaws.{seller-of-offer, withheld-le-supply, sellers-possible}
 use Rattle.path.proofs.TallyLaws.{withholdable-le}
 
 -- a constraint that doesn't bind

@@ -1,12 +1,4 @@
--- Laws and theorems on the path verdict.
-pub mod BitLaws
-pub mod LargestLaws
-pub mod TopLaws
-pub mod MaskLaws
-pub mod PathLaws
-pub mod PathVerdict
+-- Laws that the proofs of the code use.
 pub mod TallyLaws
 pub mod JudgeLaws
-pub mod SamePath
-pub mod Examples
 pub mod JudgedLaws

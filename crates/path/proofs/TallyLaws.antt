@@ -9,14 +9,15 @@ use borrow.Author.Tests.{eq-eqb, ne-eqb}
 use lib.Dec.{eqb}
 use lib.IntN.{ℤ, pos, negsuc, natAbs}
 use lib.ListN.{getD, replicate, set}
-use Rattle.number.specs.Order.{inRange, natOf}
-use Rattle.number.specs.Over.{sumTo, listed}
-use Rattle.number.proofs.Kit.{in-lo, in-hi, le-of}
-use Rattle.number.proofs.OverLaws.{listed-at, listed-same}
-use Rattle.path.specs.Paths.{Path, at, effectiveness, effect, demand, supply, share, withholdable}
-use Rattle.path.specs.Verdicts.{pathOf, tallyOf, Sound}
-use Rattle.number.proofs.SumLaws.{sum-next, sum-le}
-use Rattle.number.proofs.ListedLaws.{listed-set}
+use Rattle.rules_number.specs.Order.{inRange, natOf}
+use Rattle.rules_number.specs.Over.{sumTo, listed}
+use Rattle.rules_number.proofs.Kit.{in-lo, in-hi, le-of}
+use Rattle.rules_number.proofs.OverLaws.{listed-at, listed-same}
+use Rattle.rules_path.specs.Paths.{Path, at, effectiveness, effect, demand, supply, share, withholdable}
+use Rattle.rules_path.specs.Verdicts.{pathOf}
+use Rattle.path.specs.Tallies.{tallyOf, Sound}
+use Rattle.rules_number.proofs.SumLaws.{sum-next, sum-le}
+use Rattle.rules_number.proofs.ListedLaws.{listed-set}
 
 -- ---- signed numbers in range
 nat-range : (lo : ℕ) (hi x : ℤ) → inRange (pos lo) hi x ≡ true → natOf x ≤ natOf hi

@@ -1,17 +1,15 @@
 // One constraint judged: a pass over the resources, then the three largest amounts that net sellers can withhold.
-// The contracts cite specs/Paths and specs/Verdicts.
-use crate::Finding;
-use crate::Market;
-use crate::Verdict;
-use interval::Interval;
+// The contracts cite specs/Tallies and the definitions of rules_path.
+use rules_interval::Interval;
+use rules_path::Market;
+use rules_path::Verdict;
 ghost use mathlib.Core.Path.{_≡_};
-ghost use mathlib.Core.Bool.{cond};
 ghost use Prim.Native.Nat.{_<_, _≤_};
-ghost use lib.Dec.{ltb};
 ghost use lib.IntN.{pos, natAbs};
 ghost use mathlib.Core.List.{[]};
-ghost use Rattle.path.specs.Paths.{effectiveness, largest, top};
-ghost use Rattle.path.specs.Verdicts.{pathOf, Sound, tallyOf, offersOf, Held, topOf, verdictOf};
+ghost use Rattle.rules_path.specs.Paths.{effectiveness, top};
+ghost use Rattle.rules_path.specs.Verdicts.{pathOf, verdictOf};
+ghost use Rattle.path.specs.Tallies.{Sound, tallyOf, Held, topOf};
 
 // What a pass over the resources adds up: demand, supply and what each portfolio can withhold.
 pub(crate) struct Tally {
@@ -66,39 +64,6 @@ fn tally_of<'a>(
     }
 }
 
-// What each portfolio can withhold as a net seller; 0 for a net buyer.
-fn offers_of<'a>(
-    withholdable: [u64; Market::MAX_PORTFOLIOS],
-    sellers: &'a [u64; Market::MAX_PORTFOLIOS],
-) -> [u64; Market::MAX_PORTFOLIOS]
-    ensures { λ w. ⌜ w ≡ offersOf withholdable (now (sellers .entry)) ⌝ }
-{
-    let mut w = [0u64; Market::MAX_PORTFOLIOS];
-    let mut p: usize = 0;
-    while p < Market::MAX_PORTFOLIOS {
-        if sellers[p] == 1 {
-            w[p] = withholdable[p];
-        }
-        p += 1;
-    }
-    w
-}
-
-// The number of the largest amount; ties: the lower number.
-fn largest_of(w: [u64; Market::MAX_PORTFOLIOS]) -> usize
-    ensures { λ r. ⌜ (r ≡ largest w 16) × (r < 16) ⌝ }
-{
-    let mut best: usize = 0;
-    let mut i: usize = 0;
-    while i < Market::MAX_PORTFOLIOS {
-        if w[best] < w[i] {
-            best = i;
-        }
-        i += 1;
-    }
-    best
-}
-
 // The three largest amounts, added up, whose they are, and each at its portfolio.
 pub(crate) struct Top {
     total: u64,
@@ -117,7 +82,7 @@ fn top_of(offers: [u64; Market::MAX_PORTFOLIOS]) -> Top
     let mut withheld = [0u64; Market::MAX_PORTFOLIOS];
     let mut k: usize = Verdict::MAX_SELLERS;
     while 0 < k {
-        let p = largest_of(w);
+        let p = verdict::largest_of(w);
         let amount = w[p];
         if amount == 0 {
             return Top {
@@ -139,17 +104,6 @@ fn top_of(offers: [u64; Market::MAX_PORTFOLIOS]) -> Top
     }
 }
 
-// Left equal to demand is competitive.
-fn found(left: u64, demand: u64) -> Finding
-    ensures { λ r. ⌜ r ≡ cond (ltb left demand) Finding.NonCompetitive Finding.Competitive ⌝ }
-{
-    if left < demand {
-        Finding::NonCompetitive
-    } else {
-        Finding::Competitive
-    }
-}
-
 // The verdict on constraint c, whose shadow price is given.
 pub(crate) fn judge<'a>(
     shadow: i64,
@@ -166,14 +120,14 @@ pub(crate) fn judge<'a>(
     ensures { λ r. ⌜ r ≡ verdictOf (pathOf shadow (now (factors .entry)) (now (dispatch .entry)) (now (available .entry)) (now (floor .entry)) (now (portfolio .entry)) (now (sellers .entry)) resources c) ⌝ }
 {
     if shadow <= 0 {
-        return Verdict::not_binding();
+        return verdict::not_binding();
     }
     let tally = tally_of(factors, dispatch, available, floor, portfolio, resources, c);
     let withholdable = tally.withholdable;
-    let offers = offers_of(withholdable, sellers);
+    let offers = verdict::offers_of(withholdable, sellers);
     let top = top_of(offers);
     let left = tally.supply - top.total;
-    let finding = found(left, tally.demand);
+    let finding = verdict::found(left, tally.demand);
     let withheld = top.withheld;
     Verdict {
         finding,

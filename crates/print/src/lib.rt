@@ -1,18 +1,13 @@
-// Numbers, lines of values and names lines, put into a lent buffer at an offset (paper 01, Text). The contracts cite specs/Printing.
-use text::lines::closing;
+// Numbers, lines of values and names lines, put into a lent buffer at an offset (paper 01, Text). The contracts cite the definitions of rules_page.
+use rules_text::Printed;
+use text_numbers::closing;
 ghost use mathlib.Core.Path.{_≡_};
-ghost use Prim.Native.Nat.{_+_, _/_, _^_, _<_, _≤_, min};
+ghost use Prim.Native.Nat.{_+_, _/_, _^_, _<_, _≤_};
 ghost use lib.ListN.{length, take};
 ghost use lib.Seq.{sets};
 ghost use lib.Dec.{leb};
 ghost use lib.IntN.{natAbs};
-ghost use Rattle.print.specs.Printing.{digits, sign, decimal, lineText, printed, printedTo};
-
-// The offset after what was put, or that it did not fit and nothing was put.
-pub enum Printed {
-    To(usize),
-    Full,
-}
+ghost use Rattle.rules_text.specs.Printing.{digits, sign, decimal, lineText, printed, printedTo};
 
 fn magnitude(x: i64) -> u64
     ensures { λ r. ⌜ r ≡ natAbs x ⌝ }
@@ -169,30 +164,15 @@ fn line_width(v: [i64; 5], k: usize) -> usize
     width
 }
 
-fn has_room(length: usize, at: usize, width: usize) -> bool
-    ensures { λ r. ⌜ r ≡ leb (at + width) length ⌝ }
-{
-    if length < at {
-        return false;
-    }
-    width <= length - at
-}
-
 // Whether the line of the first k values fits. None has more than 105 bytes: five numbers of up to 20, and what closes each.
 fn line_fits(size: usize, at: usize, v: [i64; 5], k: usize) -> bool
     requires { ⌜ k ≤ 5 ⌝ }
     ensures { λ r. ⌜ r ≡ leb (at + length (lineText (take k v))) size ⌝ }
 {
-    if has_room(size, at, 105) {
+    if number::has_room(size, at, 105) {
         return true;
     }
-    has_room(size, at, line_width(v, k))
-}
-
-fn at_most_five(k: usize) -> usize
-    ensures { λ r. ⌜ r ≡ min k 5 ⌝ }
-{
-    if k < 5 { k } else { 5 }
+    number::has_room(size, at, line_width(v, k))
 }
 
 // Prints a number at an offset, where it fits.
@@ -200,7 +180,7 @@ pub fn print_number(out: &mut [u8], at: usize, x: i64) -> Printed
     ensures { λ r. ⌜ now (out .exit) ≡ printed (now (out .entry)) at (decimal x) ⌝ }
     ensures { λ r. ⌜ r ≡ printedTo (now (out .entry)) at (decimal x) ⌝ }
 {
-    if !has_room(out.len(), at, number_width(x)) {
+    if !number::has_room(out.len(), at, number_width(x)) {
         return Printed::Full;
     }
     Printed::To(put_number(out, at, x))
@@ -211,7 +191,7 @@ pub fn print_line(out: &mut [u8], at: usize, v: [i64; 5], k: usize) -> Printed
     ensures { λ r. ⌜ now (out .exit) ≡ printed (now (out .entry)) at (lineText (take k v)) ⌝ }
     ensures { λ r. ⌜ r ≡ printedTo (now (out .entry)) at (lineText (take k v)) ⌝ }
 {
-    let n = at_most_five(k);
+    let n = number::at_most(k, 5);
     if !line_fits(out.len(), at, v, n) {
         return Printed::Full;
     }
@@ -223,7 +203,7 @@ pub fn print_names(out: &mut [u8], at: usize, names: &[u8]) -> Printed
     ensures { λ r. ⌜ now (out .exit) ≡ printed (now (out .entry)) at (now (names .entry)) ⌝ }
     ensures { λ r. ⌜ r ≡ printedTo (now (out .entry)) at (now (names .entry)) ⌝ }
 {
-    if !has_room(out.len(), at, names.len()) {
+    if !number::has_room(out.len(), at, names.len()) {
         return Printed::Full;
     }
     Printed::To(put_names(out, at, names))

@@ -1,36 +1,16 @@
 // A resource as opening takes it: its bid, its default curve from costs or from a pack, and its row in the hour
-// (paper 01, Refused, by place: "each resource in number order: bid, costs (or the pack's curve), 11"). The contracts cite specs/Resources.
-use cost::Costs;
-use curve::Checked;
-use curve::Curve;
-use curve::Outcome;
-use curve::RawCurve;
-use curve::Refusal;
+// (paper 01, Refused, by place: "each resource in number order: bid, costs (or the pack's curve), 11"). The contracts cite the definitions of rules_opening.
+use rules_curve::Checked;
+use rules_curve::Curve;
+use rules_curve::Outcome;
+use rules_curve::Refusal;
+use rules_opening::Resource;
+use rules_opening::Row;
+use rules_opening::Source;
 ghost use mathlib.Core.Path.{_≡_};
-ghost use Rattle.curve.specs.Curves.{stepsOf, endOf, unlessRefused};
-ghost use Rattle.curve.specs.Refusals.{outcomeNumber};
-ghost use Rattle.resource.specs.Resources.{blankRow, liesInside, sourceRefusal, defaultBy, resourceRefusal, rowOf, rowUnless};
-
-// Where a resource's default curve comes from.
-pub enum Source {
-    Costs,
-    Pack,
-}
-
-// A resource as opening reads it. Of costs and pack only the one that the source names counts.
-pub struct Resource {
-    pub portfolio: i64,
-    pub bid: RawCurve,
-    pub source: Source,
-    pub costs: Costs,
-    pub pack: RawCurve,
-}
-
-// A resource of an hour: its submitted bid and its default curve.
-pub struct Row {
-    pub bid: Curve,
-    pub default: Curve,
-}
+ghost use Rattle.rules_curve.specs.Curves.{stepsOf, endOf, unlessRefused};
+ghost use Rattle.rules_curve.specs.Refusals.{outcomeNumber};
+ghost use Rattle.rules_opening.specs.Resources.{blankRow, liesInside, sourceRefusal, defaultBy, resourceRefusal, rowOf, rowUnless};
 
 // What opening a resource answers: its row, or a blank one and the refusal.
 pub struct OpenedRow {
@@ -42,7 +22,7 @@ pub struct OpenedRow {
 fn end_of(c: Curve) -> u64
     ensures { λ r. ⌜ r ≡ endOf (c .start) (stepsOf c) ⌝ }
 {
-    let n = c.used();
+    let n = curve::used(c);
     if n == 0 {
         return c.start;
     }
@@ -60,70 +40,64 @@ fn lies_inside(bid: Curve, default: Curve) -> bool
     end_of(bid) <= end_of(default)
 }
 
-impl Row {
-    // The row of no resource.
-    pub fn blank() -> Row
-        ensures { λ r. ⌜ r ≡ blankRow ⌝ }
-    {
-        Row {
-            bid: Curve::blank(),
-            default: Curve::blank(),
-        }
+// The row of no resource.
+pub fn blank_row() -> Row
+    ensures { λ r. ⌜ r ≡ blankRow ⌝ }
+{
+    Row {
+        bid: curve::blank(),
+        default: curve::blank(),
     }
 }
 
-impl OpenedRow {
-    // A refusal returns its number alone: the row is blank.
-    fn refused(outcome: Outcome) -> OpenedRow
-        ensures { λ r. ⌜ (r .outcome ≡ outcome) × (r .row ≡ blankRow) ⌝ }
-    {
-        OpenedRow {
-            outcome: outcome,
-            row: Row::blank(),
-        }
+// A refusal returns its number alone: the row is blank.
+fn refused(outcome: Outcome) -> OpenedRow
+    ensures { λ r. ⌜ (r .outcome ≡ outcome) × (r .row ≡ blankRow) ⌝ }
+{
+    OpenedRow {
+        outcome: outcome,
+        row: blank_row(),
     }
 }
 
-impl Resource {
-    // The resource's default curve, or the lowest refusal of its costs or pack.
-    pub fn default_curve(self) -> Checked
-        ensures number { λ r. ⌜ outcomeNumber (r .outcome) ≡ sourceRefusal (self .source) self ⌝ }
-        ensures curve { λ r. ⌜ r .curve ≡ unlessRefused (sourceRefusal (self .source) self) (defaultBy (self .source) self) ⌝ }
-    {
-        let source = self.source;
-        match source {
-            Source::Costs => self.costs.default_curve(),
-            Source::Pack => self.pack.checked_default(),
-        }
+// The resource's default curve, or the lowest refusal of its costs or pack.
+pub fn default_curve(resource: Resource) -> Checked
+    ensures number { λ r. ⌜ outcomeNumber (r .outcome) ≡ sourceRefusal (resource .source) resource ⌝ }
+    ensures curve { λ r. ⌜ r .curve ≡ unlessRefused (sourceRefusal (resource .source) resource) (defaultBy (resource .source) resource) ⌝ }
+{
+    let source = resource.source;
+    match source {
+        Source::Costs => cost::default_curve(resource.costs),
+        Source::Pack => curve_checks::checked_default(resource.pack),
     }
+}
 
-    // The resource's row in a month, or its first refusal.
-    pub fn opened(self, month: u64) -> OpenedRow
-        ensures number { λ r. ⌜ outcomeNumber (r .outcome) ≡ resourceRefusal month self ⌝ }
-        ensures row { λ r. ⌜ r .row ≡ rowUnless (resourceRefusal month self) (rowOf self) ⌝ }
-    {
-        let submitted = self.bid;
-        let checked = submitted.checked_bid(month);
-        let outcome = checked.outcome;
-        let Outcome::Accepted = outcome else {
-            return OpenedRow::refused(outcome);
-        };
-        let bid = checked.curve;
-        let checked = self.default_curve();
-        let outcome = checked.outcome;
-        let Outcome::Accepted = outcome else {
-            return OpenedRow::refused(outcome);
-        };
-        let default = checked.curve;
-        if !lies_inside(bid, default) {
-            return OpenedRow::refused(Outcome::Refused(Refusal::OutsideDefault));
-        }
-        OpenedRow {
-            outcome: Outcome::Accepted,
-            row: Row {
-                bid: bid,
-                default: default,
-            },
-        }
+// The resource's row in a month, or its first refusal.
+pub fn opened(resource: Resource, month: u64) -> OpenedRow
+    ensures number { λ r. ⌜ outcomeNumber (r .outcome) ≡ resourceRefusal month resource ⌝ }
+    ensures row { λ r. ⌜ r .row ≡ rowUnless (resourceRefusal month resource) (rowOf resource) ⌝ }
+{
+    let submitted = resource.bid;
+    let checked = curve_checks::checked_bid(submitted, month);
+    let outcome = checked.outcome;
+    let Outcome::Accepted = outcome else {
+        return refused(outcome);
+    };
+    let bid = checked.curve;
+    let checked = default_curve(resource);
+    let outcome = checked.outcome;
+    let Outcome::Accepted = outcome else {
+        return refused(outcome);
+    };
+    let default = checked.curve;
+    if !lies_inside(bid, default) {
+        return refused(Outcome::Refused(Refusal::OutsideDefault));
+    }
+    OpenedRow {
+        outcome: Outcome::Accepted,
+        row: Row {
+            bid: bid,
+            default: default,
+        },
     }
 }

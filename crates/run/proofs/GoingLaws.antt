@@ -5,19 +5,18 @@ use mathlib.Core.List.{List, [], append-nil}
 use native.Mathlib.Omega.{arith}
 use lib.ListN.{length, drop, length-drop, drop-of-length-le}
 use lib.Seq.{sets}
-use Rattle.interval.specs.declared.Interval.{Interval}
-use Rattle.engine.specs.Hours.{hourRefusal, hourAfter}
-use Rattle.engine.specs.declared.Hour.{Hour}
-use Rattle.text.specs.Numbers.{Line, lines}
-use Rattle.text.specs.Tables.{Reading, faulty, found}
-use Rattle.print.specs.Printing.{refusalText}
-use Rattle.text.proofs.LineLaws.{lines-some}
-use Rattle.parts.specs.Parts.{readInterval}
-use Rattle.parts.specs.Shown.{reading}
+use Rattle.rules_interval.specs.declared.Interval.{Interval}
+use Rattle.rules_hour.specs.Hours.{Hour, hourRefusal, hourAfter}
+use Rattle.rules_text.specs.Numbers.{Line, lines}
+use Rattle.rules_text.specs.Tables.{Reading, faulty, found}
+use Rattle.rules_text.specs.Printing.{refusalText}
+use Rattle.rules_text.proofs.LineLaws.{lines-some}
+use Rattle.rules_parts.specs.Parts.{readInterval}
+use Rattle.read_interval.specs.Shown.{reading}
 use Rattle.page.proofs.PageLaws.{Putting, putting-start, putting-next, putting-done}
-use Rattle.run.specs.Run.{pageOf, intervals, hourText}
-use Rattle.run.proofs.CountLaws.{Uses, interval-using}
-use Rattle.run.proofs.RunLaws.{faulty-text, refused-text, accepted-text, none-text, accepts-few, accepts-counts}
+use Rattle.rules_run.specs.Run.{pageOf, intervals, hourText}
+use Rattle.rules_run.proofs.CountLaws.{Uses, interval-using}
+use Rattle.rules_run.proofs.RunLaws.{faulty-text, refused-text, accepted-text, none-text, accepts-few, accepts-counts}
 
 pub positive : (n : ℕ) → (n ≡ 0 → ⊥) → 0 < n
 positive zero h = absurd (h refl)

@@ -1,7 +1,2 @@
--- Laws of the whole run.
-pub mod CountLaws
-pub mod RunLaws
+-- Laws that the proofs of the code use.
 pub mod GoingLaws
-pub mod Meaning
-pub mod Examples
-pub mod SoFar

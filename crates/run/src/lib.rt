@@ -1,27 +1,23 @@
-// The whole run: a text in, what is printed out (paper 01, Text). The contracts cite specs/Run.
-use curve::Outcome;
-use engine::Floor;
+// The whole run: a text in, what is printed out (paper 01, Text). The contracts cite the definitions of rules_run.
 use engine::Hour;
-use interval::Interval;
-use opening_part::opening_at;
-use parts::intervals::interval_at;
-use path::Verdict;
-use print::Printed;
-use resource::Row;
+use read_interval::interval_at;
+use read_opening::opening_at;
+use rules_curve::Outcome;
+use rules_hour::Floor;
+use rules_interval::Interval;
+use rules_opening::Row;
+use rules_path::Verdict;
+use rules_run::Ran;
+use rules_text::Printed;
 ghost use mathlib.Core.Path.{_≡_};
 ghost use Prim.Native.Nat.{_+_, _≤_, _<_};
 ghost use lib.ListN.{length, drop};
 ghost use lib.Seq.{sets};
-ghost use Rattle.text.specs.Numbers.{lines};
-ghost use Rattle.print.specs.Printing.{refusalText};
-ghost use Rattle.page.specs.Pages.{verdictText, curveText};
-ghost use Rattle.run.specs.Run.{hourText, partsText, output, runRoom, ranWithin, ranTo};
-
-// How many bytes were printed, or that the lent page has less room than ROOM.
-pub enum Ran {
-    Printed(usize),
-    TooSmall,
-}
+ghost use Rattle.rules_text.specs.Numbers.{lines};
+ghost use Rattle.rules_text.specs.Printing.{refusalText};
+ghost use Rattle.rules_page.specs.Pages.{verdictText, curveText};
+ghost use Rattle.engine.specs.Hours.{asHour};
+ghost use Rattle.rules_run.specs.Run.{hourText, partsText, output, runRoom, ranWithin, ranTo};
 
 // Room for what any text prints: four pages and the lines of a refusal.
 pub const ROOM: usize = 655_424;
@@ -63,8 +59,8 @@ fn put_curves(
     at: usize,
     i: u64,
     resources: usize,
-    rows: [Row; Hour::MAX_RESOURCES],
-    floors: [Floor; Hour::MAX_RESOURCES],
+    rows: [Row; Interval::MAX_RESOURCES],
+    floors: [Floor; Interval::MAX_RESOURCES],
 ) -> usize
     requires { ⌜ at + 114688 ≤ length (now out) ⌝ }
     ensures { λ r. ⌜ (now (out .exit) ≡ sets (now (out .entry)) at (curveText i resources rows floors)) × ((r ≡ at + length (curveText i resources rows floors)) × (r ≤ at + 114688)) ⌝ }
@@ -87,7 +83,7 @@ fn put_intervals(
     requires fresh { ⌜ fresh .standing .accepted ≡ 0 ⌝ }
     requires room { ⌜ 655424 ≤ length (now out) ⌝ }
     requires text { ⌜ «lines_before» + length (lines (drop start (now text))) ≤ 65536 ⌝ }
-    ensures { λ r. ⌜ (now (out .exit) ≡ sets (now (out .entry)) 0 (hourText fresh «lines_before» (lines (drop start (now (text .entry)))))) × ((r ≡ length (hourText fresh «lines_before» (lines (drop start (now (text .entry)))))) × (r ≤ 655424)) ⌝ }
+    ensures { λ r. ⌜ (now (out .exit) ≡ sets (now (out .entry)) 0 (hourText (asHour fresh) «lines_before» (lines (drop start (now (text .entry)))))) × ((r ≡ length (hourText (asHour fresh) «lines_before» (lines (drop start (now (text .entry)))))) × (r ≤ 655424)) ⌝ }
 {
     let market = fresh.market;
     let rows = fresh.rows;
@@ -103,10 +99,10 @@ fn put_intervals(
             return put_refusal(out, p, 17, fault);
         }
         let v = read.interval;
-        let taken = standing.taken(market, v);
+        let taken = cutting::take_interval(standing, market, v);
         let outcome = taken.outcome;
         if let Outcome::Refused(refusal) = outcome {
-            return put_refusal(out, p, refusal.number(), read.line);
+            return put_refusal(out, p, curve::refusal_number(refusal), read.line);
         }
         let verdicts = taken.verdicts;
         standing = taken.standing;
@@ -134,7 +130,7 @@ fn put_parts(text: &[u8], out: &mut [u8]) -> usize
     let opened = Hour::open(read.opening);
     let outcome = opened.outcome;
     if let Outcome::Refused(refusal) = outcome {
-        return put_refusal(out, 0, refusal.number(), read.line);
+        return put_refusal(out, 0, curve::refusal_number(refusal), read.line);
     }
     let hour = opened.hour;
     put_intervals(text, read.next, read.line, hour, out)

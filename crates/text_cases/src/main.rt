@@ -3,7 +3,7 @@ ghost use Prim.Native.Nat.{_≤_};
 ghost use Rattle.io.specs.Counts.{Counts};
 ghost use lib.ListN.{length};
 use libc::STDOUT_FILENO;
-use run::Ran;
+use rules_run::Ran;
 
 const MOST_NAME: usize = 60;
 

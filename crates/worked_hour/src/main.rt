@@ -1,25 +1,18 @@
 // Runs hours through the public calls and prints each answer: packs for no resource, for all and for one; a refused opening; and, of the last hour, a
 // refused call in the middle, four accepted calls and a fifth. The resources are those of paper 01's Case T and P9.
-use cost::Costs;
-use cost::Point;
-use curve::Outcome;
-use curve::RawCurve;
-use curve::RawStep;
 use engine::Hour;
-use interval::Interval;
 use libc::STDOUT_FILENO;
-use mitigation::Mitigated;
-use opening::Opening;
-use path::Verdict;
-use resource::Resource;
-use resource::Source;
-
-fn number_of(outcome: Outcome) -> u64 {
-    match outcome {
-        Outcome::Accepted => 0,
-        Outcome::Refused(refusal) => refusal.number(),
-    }
-}
+use rules_cost::Costs;
+use rules_cost::Point;
+use rules_curve::Outcome;
+use rules_curve::RawCurve;
+use rules_curve::RawStep;
+use rules_interval::Interval;
+use rules_mitigation::Mitigated;
+use rules_opening::Opening;
+use rules_opening::Resource;
+use rules_opening::Source;
+use rules_path::Verdict;
 
 fn print(label: &[u8], n: u64) {
     io::write_all(STDOUT_FILENO, label);
@@ -28,17 +21,17 @@ fn print(label: &[u8], n: u64) {
 
 // A line for the answer: the refusal's number, or 0.
 fn print_outcome(label: &[u8], outcome: Outcome) {
-    print(label, number_of(outcome));
+    print(label, curve::outcome_number(outcome));
     io::write_all(STDOUT_FILENO, b"\n");
 }
 
 // A line for a verdict: finding, demand, left and how many sellers are named.
 fn print_verdict(v: Verdict) {
     let finding = v.finding;
-    print(b"verdict ", finding.number());
+    print(b"verdict ", verdict::finding_number(finding));
     print(b" ", v.demand);
     print(b" ", v.left);
-    print(b" sellers ", v.sellers_named() as u64);
+    print(b" sellers ", verdict::sellers_named(v) as u64);
     io::write_all(STDOUT_FILENO, b"\n");
 }
 

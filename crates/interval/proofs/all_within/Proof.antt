@@ -7,11 +7,11 @@ use borrow.Author.Tests.{not-true, not-false}
 use mir.Syntax.{w64}
 use mir.Val.{toZ}
 use mir.ValLaws.{toZ-ofZ}
-use Rattle.number.specs.Order.{inRange}
-use Rattle.number.specs.Over.{allTo}
-use Rattle.number.proofs.Kit.{came}
-use Rattle.number.proofs.OverLaws.{all-next, all-fails}
-use Rattle.interval.specs.Intervals.{cell, allWithin}
+use Rattle.rules_number.specs.Order.{inRange}
+use Rattle.rules_number.specs.Over.{allTo}
+use Rattle.rules_number.proofs.Kit.{came}
+use Rattle.rules_number.proofs.OverLaws.{all-next, all-fails}
+use Rattle.rules_interval.specs.Intervals.{cell, allWithin}
 use borrow.Author.Needs.{needs}
 use Rattle.interval.proofs.all_within.Statement.{statement}
 use Rattle.interval.proofs.all_within.Tie as tie

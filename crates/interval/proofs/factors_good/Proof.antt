@@ -6,10 +6,10 @@ use native.Mathlib.Omega.{arith}
 use borrow.Author.Tests.{not-true, not-false}
 use lib.ListN.{length, length-take, length-drop, take, drop}
 use lib.Seq.{take-all}
-use Rattle.number.specs.Over.{allTo}
-use Rattle.number.proofs.OverLaws.{all-next, all-fails}
-use Rattle.interval.specs.Intervals.{factorsGood}
-use Rattle.interval.proofs.FactorLaws.{rowGood, row-good}
+use Rattle.rules_number.specs.Over.{allTo}
+use Rattle.rules_number.proofs.OverLaws.{all-next, all-fails}
+use Rattle.rules_interval.specs.Intervals.{factorsGood}
+use Rattle.rules_interval.proofs.FactorLaws.{rowGood, row-good}
 use borrow.Author.Needs.{needs}
 use Rattle.interval.proofs.factors_good.Statement.{statement}
 use Rattle.interval.proofs.factors_good.Tie as tie

@@ -5,7 +5,7 @@ use borrow.Author.Tests.{not-true, not-false}
 use mir.Syntax.{w64}
 use mir.ValLaws.{toZ-ofZ}
 use lib.IntN.{pos}
-use Rattle.number.specs.Order.{inRange}
+use Rattle.rules_number.specs.Order.{inRange}
 use borrow.Author.Needs.{needs}
 use Rattle.interval.proofs.output_good.Statement.{statement}
 use Rattle.interval.proofs.output_good.Tie as tie

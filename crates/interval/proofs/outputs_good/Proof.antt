@@ -4,10 +4,10 @@ use mathlib.Core.Path.{_≡_, refl, sym, _∙_}
 use Prim.Native.Nat.{_-_, _≤_}
 use native.Mathlib.Omega.{arith}
 use borrow.Author.Tests.{not-true, not-false}
-use Rattle.number.specs.Over.{allTo}
-use Rattle.number.proofs.Kit.{came}
-use Rattle.number.proofs.OverLaws.{all-next, all-fails}
-use Rattle.interval.specs.Intervals.{cell, outputGood, outputsGood}
+use Rattle.rules_number.specs.Over.{allTo}
+use Rattle.rules_number.proofs.Kit.{came}
+use Rattle.rules_number.proofs.OverLaws.{all-next, all-fails}
+use Rattle.rules_interval.specs.Intervals.{cell, outputGood, outputsGood}
 use borrow.Author.Needs.{needs}
 use Rattle.interval.proofs.outputs_good.Statement.{statement}
 use Rattle.interval.proofs.outputs_good.Tie as tie

@@ -5,8 +5,8 @@ use borrow.Author.Tests.{not-true, not-false}
 use mir.Syntax.{w64}
 use mir.ValLaws.{toZ-ofZ}
 use lib.IntN.{pos, negℤ}
-use Rattle.number.specs.Order.{inRange}
-use Rattle.interval.specs.Intervals.{allWithin}
+use Rattle.rules_number.specs.Order.{inRange}
+use Rattle.rules_interval.specs.Intervals.{allWithin}
 use borrow.Author.Needs.{needs}
 use Rattle.interval.proofs.ranges_good.Statement.{statement}
 use Rattle.interval.proofs.ranges_good.Tie as tie

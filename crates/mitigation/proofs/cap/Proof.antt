@@ -2,7 +2,7 @@
 use mathlib.Core.Path.{_∙_}
 use mir.Syntax.{w64}
 use mir.ValLaws.{toZ-ofZ}
-use Rattle.number.proofs.Kit.{came}
+use Rattle.rules_number.proofs.Kit.{came}
 use borrow.Author.Needs.{needs}
 use Rattle.mitigation.proofs.cap.Statement.{statement}
 use Rattle.mitigation.proofs.cap.Tie as tie

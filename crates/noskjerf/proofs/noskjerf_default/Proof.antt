@@ -6,12 +6,12 @@ use borrow.Author.Needs.{needs}
 use mir.Syntax.{w64}
 use mir.Facts.{toZ-pos}
 use lib.IntN.{pos}
-use Rattle.curve.specs.Refusals.{outcomeNumber}
-use Rattle.curve.proofs.RefusalLaws.{refused-number}
-use Rattle.cost.specs.Costs.{costRefusal}
-use Rattle.cost.specs.declared.Costs.{Costs}
-use Rattle.run.proofs.RunLaws.{number-few}
-use Rattle.noskjerf.specs.Slices.{costsIn}
+use Rattle.rules_curve.specs.Refusals.{outcomeNumber}
+use Rattle.rules_curve.proofs.RefusalLaws.{refused-number}
+use Rattle.rules_cost.specs.Costs.{costRefusal}
+use Rattle.rules_cost.specs.declared.Costs.{Costs}
+use Rattle.rules_run.proofs.RunLaws.{number-few}
+use Rattle.rules_library.specs.Slices.{costsIn}
 use Rattle.noskjerf.proofs.DefaultLaws.{Answered, few-edges, few-prices, refused, written}
 use Rattle.noskjerf.proofs.noskjerf_default.Statement.{statement}
 use Rattle.noskjerf.proofs.noskjerf_default.Tie as tie
@@ -35,15 +35,15 @@ default-curve-requires c κs = search needs
 enum-known-outcome : tie.Need-enum-known-outcome
 enum-known-outcome c = search needs
 
-number-requires : tie.Need-number-requires
-number-requires c κs = search needs
+refusal-number-requires : tie.Need-refusal-number-requires
+refusal-number-requires c κs = search needs
 
 -- the number of a refusal
-refusal : (c : tie.After-number) → costRefusal (c .before .before .before .before .before .costs-in .result) ≡ c .number .result
-refusal c = sym (c .before .before .before .before .default-curve .ensures .0) ∙ ap outcomeNumber (c .before .before .outcome .given .1) ∙ sym (c .number .ensures)
+refusal : (c : tie.After-refusal-number) → costRefusal (c .before .before .before .before .before .costs-in .result) ≡ c .refusal-number .result
+refusal c = sym (c .before .before .before .before .default-curve .ensures .0) ∙ ap outcomeNumber (c .before .before .outcome .given .1) ∙ sym (c .refusal-number .ensures)
 
-few : (c : tie.After-number) → (0 < c .number .result) × (c .number .result ≤ 18)
-few c = let r = c .before .before .outcome .given .0 .0 in (omega (arith, c .number .ensures, refused-number r), omega (arith, c .number .ensures, number-few r))
+few : (c : tie.After-refusal-number) → (0 < c .refusal-number .result) × (c .refusal-number .result ≤ 18)
+few c = let r = c .before .before .outcome .given .0 .0 in (omega (arith, c .refusal-number .ensures, refused-number r), omega (arith, c .refusal-number .ensures, number-few r))
 
 cast-result : tie.Need-cast-result
 cast-result c = record { sfits = omega (arith, few c .1) }
@@ -53,9 +53,9 @@ returns-3 c =
     let i = c .before .before .before .before .before in
     let e = i .before in
     let a = e .before .before .before .args in
-    let w = subst (λ (k : Costs). Answered (a .edges .now) (a .prices .now) k (pos (c .number .result)) (a .edges .now) (a .prices .now)) (i .costs-in .ensures)
-    (refused (a .edges .now) (a .prices .now) (i .costs-in .result) (e .before .if1 .left) (e .if2 .left) (c .number .result) (few c .0) (refusal c)) in
-    (toZ-pos w64 {n = c .number .result} (omega (arith, few c .1)) ∙ w .0, w .1)
+    let w = subst (λ (k : Costs). Answered (a .edges .now) (a .prices .now) k (pos (c .refusal-number .result)) (a .edges .now) (a .prices .now)) (i .costs-in .ensures)
+    (refused (a .edges .now) (a .prices .now) (i .costs-in .result) (e .before .if1 .left) (e .if2 .left) (c .refusal-number .result) (few c .0) (refusal c)) in
+    (toZ-pos w64 {n = c .refusal-number .result} (omega (arith, few c .1)) ∙ w .0, w .1)
 
 enum-told : tie.Need-enum-told
 enum-told c = search needs
@@ -94,7 +94,7 @@ noskjerf-default-spec =
     costs-in-requires
     default-curve-requires
     enum-known-outcome
-    number-requires
+    refusal-number-requires
     cast-result
     returns-3
     enum-told

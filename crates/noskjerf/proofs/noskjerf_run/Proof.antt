@@ -5,9 +5,9 @@ use native.Mathlib.Omega.{arith}
 use borrow.Author.Needs.{needs}
 use mir.Syntax.{w64}
 use mir.Facts.{toZ-pos}
-use Rattle.run.specs.Run.{output}
-use Rattle.run.proofs.RunLaws.{count-few}
-use Rattle.noskjerf.specs.Answers.{ranNumber}
+use Rattle.rules_run.specs.Run.{output}
+use Rattle.rules_run.proofs.RunLaws.{count-few}
+use Rattle.rules_library.specs.Answers.{ranNumber}
 use Rattle.noskjerf.proofs.noskjerf_run.Statement.{statement}
 use Rattle.noskjerf.proofs.noskjerf_run.Tie as tie
 

@@ -6,7 +6,7 @@ use borrow.Author.Tests.{not-true, not-false, le-leb, lt-leb}
 use mir.Syntax.{w64}
 use mir.ValLaws.{toZ-ofZ}
 use lib.IntN.{pos}
-use Rattle.number.specs.Order.{inRange}
+use Rattle.rules_number.specs.Order.{inRange}
 use Rattle.opening.proofs.counts_good.Statement.{statement}
 use Rattle.opening.proofs.counts_good.Tie as tie
 

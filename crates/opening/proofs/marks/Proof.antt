@@ -3,10 +3,10 @@ use mathlib.Core.Path.{_≡_, refl}
 use Prim.Native.Nat.{_-_, _≤_}
 use native.Mathlib.Omega.{arith}
 use borrow.Author.Needs.{needs}
-use Rattle.number.specs.Over.{listed, padded}
-use Rattle.number.proofs.Kit.{came}
-use Rattle.interval.specs.Intervals.{cell}
-use Rattle.opening.specs.Openings.{wholes}
+use Rattle.rules_number.specs.Over.{listed, padded}
+use Rattle.rules_number.proofs.Kit.{came}
+use Rattle.rules_interval.specs.Intervals.{cell}
+use Rattle.rules_opening.specs.Openings.{wholes}
 use Rattle.opening.proofs.OpeningLaws.{wholes-next}
 use Rattle.opening.proofs.marks.Statement.{statement}
 use Rattle.opening.proofs.marks.Tie as tie

@@ -8,11 +8,11 @@ use borrow.Author.Needs.{needs}
 use mir.Syntax.{w64}
 use mir.ValLaws.{toZ-pos}
 use lib.IntN.{ℤ, pos}
-use Rattle.number.specs.Over.{allTo}
-use Rattle.number.proofs.Kit.{rd, came, le-not-lt, not-le-lt, lt-not-le, not-lt-le}
-use Rattle.number.proofs.OverLaws.{all-next, all-fails}
-use Rattle.interval.specs.Intervals.{cell}
-use Rattle.opening.specs.Openings.{isKnown}
+use Rattle.rules_number.specs.Over.{allTo}
+use Rattle.rules_number.proofs.Kit.{rd, came, le-not-lt, not-le-lt, lt-not-le, not-lt-le}
+use Rattle.rules_number.proofs.OverLaws.{all-next, all-fails}
+use Rattle.rules_interval.specs.Intervals.{cell}
+use Rattle.rules_opening.specs.Openings.{isKnown}
 use Rattle.opening.proofs.owners_good.Statement.{statement}
 use Rattle.opening.proofs.owners_good.Tie as tie
 

@@ -7,11 +7,11 @@ use native.Mathlib.Omega.{arith}
 use borrow.Author.Needs.{needs}
 use lib.IntN.{ℤ, pos}
 use lib.ListN.{getD}
-use Rattle.number.specs.Over.{listed, padded}
-use Rattle.number.proofs.Kit.{came}
-use Rattle.number.proofs.OverLaws.{padded-next}
-use Rattle.resource.specs.declared.Resource.{Resource}
-use Rattle.opening.specs.Openings.{noResource, ownersIn}
+use Rattle.rules_number.specs.Over.{listed, padded}
+use Rattle.rules_number.proofs.Kit.{came}
+use Rattle.rules_number.proofs.OverLaws.{padded-next}
+use Rattle.rules_opening.specs.declared.Resource.{Resource}
+use Rattle.rules_opening.specs.Openings.{noResource, ownersIn}
 use Rattle.opening.proofs.owners_of.Statement.{statement}
 use Rattle.opening.proofs.owners_of.Tie as tie
 

@@ -4,11 +4,11 @@ use borrow.Author.Needs.{needs}
 use Rattle.opening.proofs.refused.Statement.{statement}
 use Rattle.opening.proofs.refused.Tie as tie
 
-blank-requires : tie.Need-blank-requires
-blank-requires c κs = search needs
+blank-row-requires : tie.Need-blank-row-requires
+blank-row-requires c κs = search needs
 
 returns : tie.Need-returns
-returns c = (refl, (refl, rw (c .blank .ensures)))
+returns c = (refl, (refl, rw (c .blank-row .ensures)))
 
 pub refused-spec : {M : Type 1} → statement M
-refused-spec = tie.close (tie.spec blank-requires returns)
+refused-spec = tie.close (tie.spec blank-row-requires returns)

@@ -7,11 +7,11 @@ use native.Mathlib.Omega.{arith}
 use borrow.Author.Needs.{needs}
 use borrow.Author.Tests.{not-true, not-false}
 use lib.IntN.{ℤ}
-use Rattle.number.specs.Over.{allTo}
-use Rattle.number.proofs.Kit.{came}
-use Rattle.number.proofs.OverLaws.{all-next, all-fails}
-use Rattle.interval.specs.Intervals.{cell}
-use Rattle.opening.specs.Openings.{isMark}
+use Rattle.rules_number.specs.Over.{allTo}
+use Rattle.rules_number.proofs.Kit.{came}
+use Rattle.rules_number.proofs.OverLaws.{all-next, all-fails}
+use Rattle.rules_interval.specs.Intervals.{cell}
+use Rattle.rules_opening.specs.Openings.{isMark}
 use Rattle.opening.proofs.sellers_good.Statement.{statement}
 use Rattle.opening.proofs.sellers_good.Tie as tie
 

@@ -7,7 +7,7 @@ use native.Mathlib.Omega.{arith}
 use borrow.Author.Needs.{needs}
 use borrow.Author.Tests.{leb-true, leb-false, not-true, not-false}
 use lib.ListN.{length}
-use Rattle.page.specs.Pages.{curveNames, curveTable, curveText, curveRoom, hasRoom}
+use Rattle.rules_page.specs.Pages.{curveNames, curveTable, curveText, curveRoom, hasRoom}
 use Rattle.page.proofs.PageLaws.{Putting, putting-start, putting-next, putting-done, within-none, within-some}
 use Rattle.page.proofs.print_curves.Statement.{statement}
 use Rattle.page.proofs.print_curves.Tie as tie

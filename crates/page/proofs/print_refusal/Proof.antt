@@ -7,11 +7,11 @@ use native.Mathlib.Omega.{arith}
 use borrow.Author.Tests.{leb-true, not-true, not-false}
 use lib.ListN.{length}
 use lib.IntN.{pos}
-use Rattle.number.proofs.Kit.{came}
-use Rattle.text.specs.Numbers.{Row, bytes}
-use Rattle.print.specs.Printing.{lineText, refusalText, printed, printedTo}
-use Rattle.page.specs.Pages.{printable, refusalRoom, hasRoom}
-use Rattle.print.proofs.PrintLaws.{line-few}
+use Rattle.rules_number.proofs.Kit.{came}
+use Rattle.rules_text.specs.Numbers.{Row, bytes}
+use Rattle.rules_text.specs.Printing.{lineText, refusalText, printed, printedTo}
+use Rattle.rules_page.specs.Pages.{printable, refusalRoom, hasRoom}
+use Rattle.rules_text.proofs.PrintLaws.{line-few}
 use Rattle.page.proofs.PageLaws.{Putting, putting-start, putting-next, putting-done, within-none, within-some, put-both}
 use borrow.Author.Needs.{needs}
 use Rattle.page.proofs.print_refusal.Statement.{statement}

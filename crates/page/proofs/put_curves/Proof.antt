@@ -6,10 +6,10 @@ use borrow.Author.Needs.{needs}
 use native.Mathlib.Omega.{arith}
 use lib.ListN.{length, drop}
 use lib.Seq.{sets}
-use Rattle.number.specs.Over.{listed}
-use Rattle.number.proofs.OverLaws.{listed-at, listed-length}
-use Rattle.print.specs.Printing.{groupText, tableText}
-use Rattle.page.specs.Pages.{printable, curveRows, curveTable}
+use Rattle.rules_number.specs.Over.{listed}
+use Rattle.rules_number.proofs.OverLaws.{listed-at, listed-length}
+use Rattle.rules_text.specs.Printing.{groupText, tableText}
+use Rattle.rules_page.specs.Pages.{printable, curveRows, curveTable}
 use Rattle.page.proofs.PageLaws.{Putting, putting-start, putting-next, putting-done, table-next, table-done}
 use Rattle.page.proofs.put_curves.Statement.{statement}
 use Rattle.page.proofs.put_curves.Tie as tie

@@ -5,10 +5,10 @@ use mathlib.Core.List.{List, [], _∷_}
 use native.Mathlib.Omega.{arith}
 use lib.ListN.{length}
 use lib.IntN.{pos}
-use Rattle.number.proofs.Kit.{came}
-use Rattle.print.specs.Printing.{lineText, printed, printedTo}
-use Rattle.page.specs.Pages.{printable}
-use Rattle.print.proofs.PrintLaws.{line-few}
+use Rattle.rules_number.proofs.Kit.{came}
+use Rattle.rules_text.specs.Printing.{lineText, printed, printedTo}
+use Rattle.rules_page.specs.Pages.{printable}
+use Rattle.rules_text.proofs.PrintLaws.{line-few}
 use Rattle.page.proofs.PageLaws.{put-to, put-full}
 use borrow.Author.Needs.{needs}
 use Rattle.page.proofs.put_four.Statement.{statement}

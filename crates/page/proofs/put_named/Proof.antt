@@ -6,9 +6,9 @@ use mathlib.Core.Logic.{⊎-elim}
 use borrow.Author.Needs.{needs}
 use native.Mathlib.Omega.{arith}
 use lib.IntN.{pos}
-use Rattle.number.proofs.Kit.{came}
-use Rattle.print.specs.Printing.{groupText, lineText}
-use Rattle.page.specs.Pages.{printable, sellerRow, sellersNamed}
+use Rattle.rules_number.proofs.Kit.{came}
+use Rattle.rules_text.specs.Printing.{groupText, lineText}
+use Rattle.rules_page.specs.Pages.{printable, sellerRow, sellersNamed}
 use Rattle.page.proofs.PageLaws.{Putting, namedFrom, named-all, putting-start, putting-next, putting-done, named-yes, named-no, named-done, small-printable}
 use Rattle.page.proofs.put_named.Statement.{statement}
 use Rattle.page.proofs.put_named.Tie as tie

@@ -6,9 +6,9 @@ use borrow.Author.Needs.{needs}
 use native.Mathlib.Omega.{arith}
 use lib.ListN.{length, drop, take, getD}
 use lib.Seq.{sets}
-use Rattle.number.proofs.OverLaws.{taken-at}
-use Rattle.print.specs.Printing.{groupText, tableText}
-use Rattle.page.specs.Pages.{printable, sellerRows, sellerTable, shown}
+use Rattle.rules_number.proofs.OverLaws.{taken-at}
+use Rattle.rules_text.specs.Printing.{groupText, tableText}
+use Rattle.rules_page.specs.Pages.{printable, sellerRows, sellerTable, shown}
 use Rattle.page.proofs.PageLaws.{Putting, putting-start, putting-next, putting-done, table-next, table-done, taken-length, noVerdict}
 use Rattle.page.proofs.put_sellers.Statement.{statement}
 use Rattle.page.proofs.put_sellers.Tie as tie

@@ -7,12 +7,12 @@ use native.Mathlib.Omega.{arith}
 use lib.ListN.{length, drop, getD, length-map}
 use lib.Seq.{sets}
 use lib.IntN.{pos}
-use Rattle.number.proofs.Kit.{came}
-use Rattle.number.proofs.OverLaws.{taken-at}
-use Rattle.curve.specs.Curves.{blankStep}
-use Rattle.mitigation.specs.Mitigation.{usedSteps}
-use Rattle.print.specs.Printing.{lineText, groupText}
-use Rattle.page.specs.Pages.{printable, stepRow}
+use Rattle.rules_number.proofs.Kit.{came}
+use Rattle.rules_number.proofs.OverLaws.{taken-at}
+use Rattle.rules_curve.specs.Curves.{blankStep}
+use Rattle.rules_mitigation.specs.Mitigation.{usedSteps}
+use Rattle.rules_text.specs.Printing.{lineText, groupText}
+use Rattle.rules_page.specs.Pages.{printable, stepRow}
 use Rattle.page.proofs.PageLaws.{Putting, putting-start, putting-next, putting-done, group-next, group-done, taken-length, small-printable}
 use Rattle.page.proofs.put_steps.Statement.{statement}
 use Rattle.page.proofs.put_steps.Tie as tie

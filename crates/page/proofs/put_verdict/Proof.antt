@@ -5,11 +5,11 @@ use mathlib.Core.List.{List, _∷_}
 use native.Mathlib.Omega.{arith}
 use lib.ListN.{length}
 use lib.IntN.{pos}
-use Rattle.number.proofs.Kit.{came}
-use Rattle.path.specs.Verdicts.{findingNumber}
-use Rattle.print.specs.Printing.{lineText, printed, printedTo}
-use Rattle.page.specs.Pages.{printable, verdictRow}
-use Rattle.print.proofs.PrintLaws.{line-few}
+use Rattle.rules_number.proofs.Kit.{came}
+use Rattle.rules_path.specs.Verdicts.{findingNumber}
+use Rattle.rules_text.specs.Printing.{lineText, printed, printedTo}
+use Rattle.rules_page.specs.Pages.{printable, verdictRow}
+use Rattle.rules_text.proofs.PrintLaws.{line-few}
 use Rattle.page.proofs.PageLaws.{put-to, put-full, small-printable, finding-small}
 use borrow.Author.Needs.{needs}
 use Rattle.page.proofs.put_verdict.Statement.{statement}
@@ -33,7 +33,7 @@ put c =
     let s = p1 .before .before in
     let fa = came (p1 .printable .result) (p1 .printable .ok) ∙ p1 .printable .ensures in
     let fb = came (p2 .printable2 .result) (p2 .printable2 .ok) ∙ p2 .printable2 .ensures ∙ ap pos (small-printable (s .args .c) (omega (arith, s .pre .1))) in
-    let fc = came (p3 .printable3 .result) (p3 .printable3 .ok) ∙ p3 .printable3 .ensures ∙ ap (λ (k : ℕ). pos (printable k)) (n .number .ensures) ∙ ap pos (small-printable (findingNumber (s .args .v .finding)) (finding-small (s .args .v .finding))) in
+    let fc = came (p3 .printable3 .result) (p3 .printable3 .ok) ∙ p3 .printable3 .ensures ∙ ap (λ (k : ℕ). pos (printable k)) (n .finding-number .ensures) ∙ ap pos (small-printable (findingNumber (s .args .v .finding)) (finding-small (s .args .v .finding))) in
     let fd = came (p4 .printable4 .result) (p4 .printable4 .ok) ∙ p4 .printable4 .ensures in
     let fe = came (p5 .printable5 .result) (p5 .printable5 .ok) ∙ p5 .printable5 .ensures in
     (simp (fa, fb, fc, fd, fe) at (c .print-line .ensures .0), simp (fa, fb, fc, fd, fe) at (c .print-line .ensures .1))
@@ -44,8 +44,8 @@ printable-requires c κs = search needs
 printable-requires-2 : tie.Need-printable-requires-2
 printable-requires-2 c κs = search needs
 
-number-requires : tie.Need-number-requires
-number-requires c κs = search needs
+finding-number-requires : tie.Need-finding-number-requires
+finding-number-requires c κs = search needs
 
 printable-requires-3 : tie.Need-printable-requires-3
 printable-requires-3 c κs = search needs
@@ -92,7 +92,7 @@ put-verdict-spec =
     (tie.spec
     printable-requires
     printable-requires-2
-    number-requires
+    finding-number-requires
     printable-requires-3
     printable-requires-4
     printable-requires-5

@@ -1,5 +1,5 @@
 -- `page::shown` meets its contract. Assumes nothing.
-use Rattle.page.specs.Pages.{shown}
+use Rattle.rules_page.specs.Pages.{shown}
 use borrow.Author.Needs.{needs}
 use Rattle.page.proofs.shown.Statement.{statement}
 use Rattle.page.proofs.shown.Tie as tie

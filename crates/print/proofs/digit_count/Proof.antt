@@ -1,7 +1,7 @@
 -- `print::digit_count` meets its contract. Assumes nothing.
 use Prim.Native.Nat.{_-_, _^_, _≤_, _<_}
 use native.Mathlib.Omega.{arith}
-use Rattle.print.proofs.PrintLaws.{counted, Counting, counting-start, counting-bound, counting-more, counting-done}
+use Rattle.rules_text.proofs.PrintLaws.{counted, Counting, counting-start, counting-bound, counting-more, counting-done}
 use Rattle.print.proofs.digit_count.Statement.{statement}
 use Rattle.print.proofs.digit_count.Tie as tie
 

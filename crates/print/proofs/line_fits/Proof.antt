@@ -6,8 +6,8 @@ use borrow.Author.Needs.{needs}
 use borrow.Author.Tests.{leb-true, le-leb}
 use lib.Dec.{leb}
 use lib.ListN.{length, take, length-take}
-use Rattle.print.specs.Printing.{lineText}
-use Rattle.print.proofs.PrintLaws.{line-few}
+use Rattle.rules_text.specs.Printing.{lineText}
+use Rattle.rules_text.proofs.PrintLaws.{line-few}
 use Rattle.print.proofs.line_fits.Statement.{statement}
 use Rattle.print.proofs.line_fits.Tie as tie
 

@@ -6,9 +6,9 @@ use mathlib.Core.Path.{_≡_, sym, ap, _∙_}
 use lib.ListN.{length, take, getD}
 use lib.Seq.{getD-take}
 use lib.IntN.{ℤ, pos}
-use Rattle.number.proofs.Kit.{came}
-use Rattle.print.specs.Printing.{decimal}
-use Rattle.print.proofs.PrintLaws.{Widening, widening-start, widening-more, widening-done, first-length, decimal-few}
+use Rattle.rules_number.proofs.Kit.{came}
+use Rattle.rules_text.specs.Printing.{decimal}
+use Rattle.rules_text.proofs.PrintLaws.{Widening, widening-start, widening-more, widening-done, first-length, decimal-few}
 use Rattle.print.proofs.line_width.Statement.{statement}
 use Rattle.print.proofs.line_width.Tie as tie
 

@@ -3,8 +3,8 @@ use borrow.Author.Needs.{needs}
 use lib.IntN.{pos, _+ℤ_, _-ℤ_}
 use mir.Syntax.{w64}
 use mir.ValLaws.{toZ-ofZ}
-use Rattle.number.proofs.Kit.{came}
-use Rattle.text.proofs.IntegerLaws.{id-cast, up-fits, away-fits, away-cast, away-again, away-size}
+use Rattle.rules_number.proofs.Kit.{came}
+use Rattle.rules_text.proofs.IntegerLaws.{id-cast, up-fits, away-fits, away-cast, away-again, away-size}
 use Rattle.print.proofs.magnitude.Statement.{statement}
 use Rattle.print.proofs.magnitude.Tie as tie
 

@@ -5,9 +5,9 @@ use borrow.Author.Needs.{needs}
 use mathlib.Core.Path.{_≡_, sym, ap, _∙_}
 use lib.ListN.{length}
 use lib.IntN.{natAbs}
-use Rattle.number.proofs.Kit.{came}
-use Rattle.print.specs.Printing.{digits}
-use Rattle.print.proofs.PrintLaws.{abs-small, digits-few, decimal-plus, decimal-minus}
+use Rattle.rules_number.proofs.Kit.{came}
+use Rattle.rules_text.specs.Printing.{digits}
+use Rattle.rules_text.proofs.PrintLaws.{abs-small, digits-few, decimal-plus, decimal-minus}
 use Rattle.print.proofs.number_width.Statement.{statement}
 use Rattle.print.proofs.number_width.Tie as tie
 

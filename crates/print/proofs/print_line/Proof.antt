@@ -8,22 +8,22 @@ use mathlib.Core.List.{List}
 use lib.ListN.{length, take}
 use lib.Dec.{leb}
 use lib.Seq.{sets}
-use Rattle.print.specs.Printing.{lineText, holds}
-use Rattle.print.proofs.PrintLaws.{prints, prints-none, first-most}
+use Rattle.rules_text.specs.Printing.{lineText, holds}
+use Rattle.rules_text.proofs.PrintLaws.{prints, prints-none, first-most}
 use Rattle.print.proofs.print_line.Statement.{statement}
 use Rattle.print.proofs.print_line.Tie as tie
 
-at-most-five-requires : tie.Need-at-most-five-requires
-at-most-five-requires c κs = search needs
+at-most-requires : tie.Need-at-most-requires
+at-most-requires c κs = search needs
 
 line-fits-requires : tie.Need-line-fits-requires
-line-fits-requires c κs = omega (arith, c .at-most-five .ensures)
+line-fits-requires c κs = omega (arith, c .at-most .ensures)
 
-same : (c : tie.After-line-fits) → lineText (take (c .before .at-most-five .result) (c .before .before .before .args .v)) ≡ lineText (take (c .before .before .before .args .k) (c .before .before .before .args .v))
+same : (c : tie.After-line-fits) → lineText (take (c .before .at-most .result) (c .before .before .before .args .v)) ≡ lineText (take (c .before .before .before .args .k) (c .before .before .before .args .v))
 same c =
     let s = c .before .before .before in
     let n : length (s .args .v) ≡ 5 = search needs in
-    ap (λ (j : ℕ). lineText (take j (s .args .v))) (c .before .at-most-five .ensures) ∙ ap lineText (first-most (s .args .v) (s .args .k) n)
+    ap (λ (j : ℕ). lineText (take j (s .args .v))) (c .before .at-most .ensures) ∙ ap lineText (first-most (s .args .v) (s .args .k) n)
 
 -- the test is whether the line fits
 tests : (c : tie.After-line-fits) → c .line-fits .result ≡ holds (c .before .before .before .args .out .now) (c .before .before .before .args .at) (lineText (take (c .before .before .before .args .k) (c .before .before .before .args .v)))
@@ -40,8 +40,8 @@ put-line-requires : tie.Need-put-line-requires
 put-line-requires c κs =
     let r = c .before .before in
     let a = r .before .before .before .args in (
-      omega (arith, r .before .at-most-five .ensures),
-      leb-true (a .at + length (lineText (take (r .before .at-most-five .result) (a .v)))) (length (a .out .now))
+      omega (arith, r .before .at-most .ensures),
+      leb-true (a .at + length (lineText (take (r .before .at-most .result) (a .v)))) (length (a .out .now))
           (ap (λ (l : List ℕ). leb (a .at + length l) (length (a .out .now))) (same r) ∙ sym (tests r) ∙ not-false (r .line-fits .result) (c .before .if1 .left)),
     )
 
@@ -57,4 +57,4 @@ returns-2 c =
     (p .put-line .ensures .0 ∙ ap (sets (a .out .now) (a .at)) (same r)) (p .put-line .ensures .1 ∙ ap (λ (l : List ℕ). a .at + length l) (same r))
 
 pub print-line-spec : {M : Type 1} → statement M
-print-line-spec = tie.close (tie.spec at-most-five-requires line-fits-requires returns put-line-requires same-length returns-2)
+print-line-spec = tie.close (tie.spec at-most-requires line-fits-requires returns put-line-requires same-length returns-2)

@@ -4,7 +4,7 @@ use borrow.Author.Needs.{needs}
 use borrow.Author.Tests.{leb-true, not-true, not-false}
 use mathlib.Core.Path.{sym, _∙_}
 use lib.ListN.{length}
-use Rattle.print.proofs.PrintLaws.{prints, prints-none}
+use Rattle.rules_text.proofs.PrintLaws.{prints, prints-none}
 use Rattle.print.proofs.print_names.Statement.{statement}
 use Rattle.print.proofs.print_names.Tie as tie
 

@@ -7,9 +7,9 @@ use mathlib.Core.List.{List}
 use lib.ListN.{length}
 use lib.Dec.{leb}
 use lib.Seq.{sets}
-use Rattle.number.proofs.Kit.{rd, came}
-use Rattle.print.specs.Printing.{decimal, holds}
-use Rattle.print.proofs.PrintLaws.{prints, prints-none}
+use Rattle.rules_number.proofs.Kit.{rd, came}
+use Rattle.rules_text.specs.Printing.{decimal, holds}
+use Rattle.rules_text.proofs.PrintLaws.{prints, prints-none}
 use Rattle.print.proofs.print_number.Statement.{statement}
 use Rattle.print.proofs.print_number.Tie as tie
 

@@ -4,7 +4,7 @@ use native.Mathlib.Omega.{arith}
 use borrow.Author.Needs.{needs}
 use mathlib.Core.Path.{_≡_, refl, ap, subst, _∙_}
 use lib.ListN.{length, length-set}
-use Rattle.print.proofs.PrintLaws.{Putting, putting-start, putting-two, putting-end, putting-done}
+use Rattle.rules_text.proofs.PrintLaws.{Putting, putting-start, putting-two, putting-end, putting-done}
 use Rattle.print.proofs.put_digits.Statement.{statement}
 use Rattle.print.proofs.put_digits.Tie as tie
 

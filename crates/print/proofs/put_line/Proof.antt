@@ -7,10 +7,10 @@ use mathlib.Core.List.{List}
 use lib.ListN.{length, take, getD}
 use lib.Seq.{sets, getD-take}
 use lib.IntN.{ℤ, pos}
-use Rattle.number.proofs.Kit.{rd, came}
-use Rattle.text.specs.Numbers.{closing}
-use Rattle.print.specs.Printing.{decimal}
-use Rattle.print.proofs.PrintLaws.{Lining, lining-start, lining-room, lining-more, lining-done, first-length}
+use Rattle.rules_number.proofs.Kit.{rd, came}
+use Rattle.rules_text.specs.Numbers.{closing}
+use Rattle.rules_text.specs.Printing.{decimal}
+use Rattle.rules_text.proofs.PrintLaws.{Lining, lining-start, lining-room, lining-more, lining-done, first-length}
 use Rattle.print.proofs.put_line.Statement.{statement}
 use Rattle.print.proofs.put_line.Tie as tie
 

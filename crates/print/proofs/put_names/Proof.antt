@@ -5,7 +5,7 @@ use native.Mathlib.Nat.{add-zero}
 use mathlib.Core.Path.{_≡_, refl, sym, ap, _∙_}
 use lib.ListN.{length, drop, getD, length-set, drop-of-length-le}
 use lib.Seq.{sets}
-use Rattle.print.proofs.PrintLaws.{names-step}
+use Rattle.rules_text.proofs.PrintLaws.{names-step}
 use Rattle.print.proofs.put_names.Statement.{statement}
 use Rattle.print.proofs.put_names.Tie as tie
 

@@ -7,10 +7,10 @@ use mathlib.Core.List.{List}
 use lib.ListN.{length, length-append}
 use lib.Seq.{sets}
 use lib.IntN.{ℤ, natAbs}
-use Rattle.number.proofs.Kit.{came}
-use Rattle.text.proofs.ListLaws.{sets-append}
-use Rattle.print.specs.Printing.{digits, sign, decimal}
-use Rattle.print.proofs.PrintLaws.{abs-small, decimal-sign}
+use Rattle.rules_number.proofs.Kit.{came}
+use Rattle.rules_text.proofs.ListLaws.{sets-append}
+use Rattle.rules_text.specs.Printing.{digits, sign, decimal}
+use Rattle.rules_text.proofs.PrintLaws.{abs-small, decimal-sign}
 use Rattle.print.proofs.put_number.Statement.{statement}
 use Rattle.print.proofs.put_number.Tie as tie
 

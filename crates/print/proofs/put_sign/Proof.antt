@@ -5,9 +5,9 @@ use mathlib.Core.Path.{_≡_, sym, ap}
 use mathlib.Core.List.{[], _∷_}
 use lib.ListN.{length}
 use lib.Seq.{sets}
-use Rattle.number.proofs.Kit.{came}
-use Rattle.print.specs.Printing.{sign}
-use Rattle.print.proofs.PrintLaws.{sign-plus, sign-minus}
+use Rattle.rules_number.proofs.Kit.{came}
+use Rattle.rules_text.specs.Printing.{sign}
+use Rattle.rules_text.proofs.PrintLaws.{sign-plus, sign-minus}
 use Rattle.print.proofs.put_sign.Statement.{statement}
 use Rattle.print.proofs.put_sign.Tie as tie
 

@@ -43,17 +43,17 @@ use denote.Triple.Table.{entered, cited}
 use denote.Triple.Walked.{says, Stays, stay-none, stay-none-slice, walkOf, goes-none, goes-none-slice, Walks, ends-at, walked, walk-meets}
 use denote.Exit.{yes}
 use denote.Triple.Clauses.{ensured, lasts}
-use Rattle.text.specs.Offsets.{namesAt}
+use Rattle.rules_text.specs.Offsets.{namesAt}
 use Rattle.reader.specs.declared.Reader.{Reader}
-use Rattle.text.specs.declared.lines.Found.{Found}
+use Rattle.rules_text.specs.declared.Found.{Found}
 use Rattle.reader.proofs.Reader as T
 use Rattle.reader.proofs.Reader.Laws as T′
-use Rattle.text.proofs.lines.Found as S
-use Rattle.text.proofs.lines.Found.Laws as S′
-use Rattle.text.proofs.lines.line_is as work
-use Rattle.text.proofs.lines.line_is.Symbol as work-def
-use Rattle.text.proofs.lines.line_is.Symbol.{name as #text·lines·line-is}
-use Rattle.text.proofs.lines.line_is.Met as work-thm
+use Rattle.rules_text.proofs.Found as S
+use Rattle.rules_text.proofs.Found.Laws as S′
+use Rattle.text_names.proofs.line_is as work
+use Rattle.text_names.proofs.line_is.Symbol as work-def
+use Rattle.text_names.proofs.line_is.Symbol.{name as #text-names·line-is}
+use Rattle.text_names.proofs.line_is.Met as work-thm
 use Rattle.reader.proofs.names.Key.{name as #reader·names}
 use Rattle.reader.proofs.names as names
 use Rattle.reader.proofs.names.Statement as stated
@@ -142,7 +142,7 @@ module _ {M : Type 1} (𝓤 : URA M) (H : Heap 𝓤) (A : Atoms 𝓤) (W : Given
       suffices ! _ (ends-at 𝓤 H A names.ended stayed (names.clauses 𝓤 H A mem run) W ((κs, (q, (q′, tt)), tt, (d, (s, tt)), at), tt) u r (tt, (tt, tt)) (tt, (tt, tt))) $ says ! e $
       move ! (1 ∷ []) $ frame ! $ move ! (1 ∷ []) $ split ! $ nothing ! $ move ! (2 ∷ 0 ∷ []) $ fjoin ! $ move ! (1 ∷ 0 ∷ []) $ fjoin ! $ frame ! $ done !
 
-  module _ (C : Calls 𝓤 H) (Λ : Loops 𝓤 H) (fm : FmC 𝓤 H (W .laws) C) (known : Triple 𝓤 (C #text·lines·line-is) (LineIs 𝓤 H A mem run)) where
+  module _ (C : Calls 𝓤 H) (Λ : Loops 𝓤 H) (fm : FmC 𝓤 H (W .laws) C) (known : Triple 𝓤 (C #text-names·line-is) (LineIs 𝓤 H A mem run)) where
     walk : Holds (hasTy (T′.mir (named 0)) mach) × WT mach → Is (ShrSlice (named 1) κ′ u8) s (v′ ∷ []) → ent 𝓤 (onEntry 𝓤 H A names.signature κs (q, (q′, tt)) (d, (s, tt)) at) (WpFn 𝓤 H C Λ code.function (mach ∷ v′ ∷ []) Post)
     walk wt p =
         qed W (raw (onEntry 𝓤 H A names.signature κs (q, (q′, tt)) (d, (s, tt)) at) ∷ []) ∵ enter ! C Λ code.function (mach ∷ v′ ∷ []) _ $
@@ -160,13 +160,13 @@ module _ {M : Type 1} (𝓤 : URA M) (H : Heap 𝓤) (A : Atoms 𝓤) (W : Given
         move ! (11 ∷ 12 ∷ []) $ free1 ! $ move ! (9 ∷ 10 ∷ []) $ free1 ! $ move ! (7 ∷ 8 ∷ []) $ free1 ! $ move ! (5 ∷ 6 ∷ []) $ free1 ! $ move ! (3 ∷ 4 ∷ []) $ free1 ! $ free0 ! $ by ! (exits r u e))))))))))
 
 module _ {M : Type 1} (𝓤 : URA M) (H : Heap 𝓤) (A : Atoms 𝓤) (W : Given 𝓤 H A) (mem : Memory → SProp 𝓤) (run : Routine → Fun 𝓤) where
-  names-walks : (C : Calls 𝓤 H) (Λ : Loops 𝓤 H) → FmC 𝓤 H (W .laws) C → Triple 𝓤 (C #text·lines·line-is) (LineIs 𝓤 H A mem run)
+  names-walks : (C : Calls 𝓤 H) (Λ : Loops 𝓤 H) → FmC 𝓤 H (W .laws) C → Triple 𝓤 (C #text-names·line-is) (LineIs 𝓤 H A mem run)
       → Walks 𝓤 H A names.ended stayed (WpFn 𝓤 H C Λ code.function) (names.clauses 𝓤 H A mem run)
   names-walks C Λ fm known = walked 𝓤 H A names.ended stayed (names.clauses 𝓤 H A mem run) (WpFn 𝓤 H C Λ code.function) (λ κs. (LL.vals (T.the-type (namedLft 2 0 tt κs)) (T′.the-laws (namedLft 2 0 tt κs)), (slice-vals, tt))) (λ κs. (LL.tells (T.the-type (namedLft 2 0 tt κs)) (T′.the-laws (namedLft 2 0 tt κs)), (shr-slice-tells (named 1) (κs .1 .0) u8, tt)))
       (λ κs qs bounds a g are. via 𝓤 _ (fst∗ 𝓤 _ (emp 𝓤)) (walk 𝓤 H A W mem run (κs .0) (κs .1 .0) (qs .0) (qs .1 .0) (a .0) (a .1 .0) C Λ fm known (LL.lawful (T.the-type (namedLft 2 0 tt κs)) (T′.the-laws (namedLft 2 0 tt κs)) 𝓤 H A W .typed (a .0) _ (are .0) .0) (are .1 .0)))
 
 names-meets : {M : Type 1} (𝓤 : URA M) (H : Heap 𝓤) (A : Atoms 𝓤) (W : Given 𝓤 H A) (mem : Memory → SProp 𝓤) (run : Routine → Fun 𝓤) (𝓣 : Tables 𝓤 H)
-    → Triple 𝓤 (𝓣 .C #text·lines·line-is) (LineIs 𝓤 H A mem run)
+    → Triple 𝓤 (𝓣 .C #text-names·line-is) (LineIs 𝓤 H A mem run)
     → Meets 𝓤 H A names.signature (WpFn 𝓤 H (𝓣 .C) (𝓣 .Λ) code.function) (names.spec 𝓤 H A mem run)
 names-meets 𝓤 H A W mem run 𝓣 known-work = walk-meets 𝓤 H A names.ended stayed W (goes-none 𝓤 H A W 2 B yes (λ κs x f. refl), (goes-none-slice 𝓤 H A W 2 (1 ∷ []) tt (plain (λ _. u8)) yes, tt)) (names.clauses 𝓤 H A mem run) (WpFn 𝓤 H (𝓣 .C) (𝓣 .Λ) code.function) (WpFn-mono 𝓤 H (W .laws) 𝓣 code.function)
     (names-walks 𝓤 H A W mem run (𝓣 .C) (𝓣 .Λ) (fmOf 𝓤 H (W .laws) 𝓣) known-work)
@@ -177,4 +177,4 @@ names-spec 𝓤 H 𝓜 𝓖 𝓡 =
     entered 𝓤 H (tripleOf 𝓤 H (𝓖 .A) names.signature (names.spec 𝓤 H (𝓖 .A) (𝓜 .mem) (𝓡 .run)))
     (tables 𝓤 H 𝓜 𝓡 code.env .C) (tables 𝓤 H 𝓜 𝓡 code.env .Λ) #reader·names code.function (code.unfolded 𝓤 H 𝓜 𝓡)
     (names-meets 𝓤 H (𝓖 .A) (givenOf 𝓤 H 𝓜 𝓖) (𝓜 .mem) (𝓡 .run) (tablesOf 𝓤 H 𝓜 (tables 𝓤 H 𝓜 𝓡 code.env))
-    (cited 𝓤 H (LineIs 𝓤 H (𝓖 .A) (𝓜 .mem) (𝓡 .run)) 𝓜 𝓡 code.env #text·lines·line-is work-def.routine code.calls-text·lines·line-is (work-thm.met 𝓤 H 𝓜 𝓖 𝓡)))
+    (cited 𝓤 H (LineIs 𝓤 H (𝓖 .A) (𝓜 .mem) (𝓡 .run)) 𝓜 𝓡 code.env #text-names·line-is work-def.routine code.calls-text-names·line-is (work-thm.met 𝓤 H 𝓜 𝓖 𝓡)))

@@ -37,10 +37,10 @@ use denote.Triple.Table.{entered, cited}
 use denote.Triple.Walked.{says, Stays, stay-none, stay-none-slice, walkOf, goes-none, goes-none-slice, Walks, ends-at, walked, walk-meets}
 use denote.Exit.{yes}
 use denote.Triple.Clauses.{ensured, lasts}
-use Rattle.text.specs.Offsets.{rowAt}
-use Rattle.text.specs.declared.lines.Row.{Row}
-use Rattle.text.proofs.lines.Row as S
-use Rattle.text.proofs.lines.Row.Laws as S′
+use Rattle.rules_text.specs.Offsets.{rowAt}
+use Rattle.rules_text.specs.declared.Row.{Row}
+use Rattle.rules_text.proofs.Row as S
+use Rattle.rules_text.proofs.Row.Laws as S′
 use Rattle.reader.specs.declared.Reader.{Reader}
 use Rattle.reader.proofs.Reader as T
 use Rattle.reader.proofs.Reader.Laws as T′

@@ -4,12 +4,12 @@ use Prim.Native.Nat.{suc, _-_}
 use native.Mathlib.Omega.{arith}
 use borrow.Author.Needs.{needs}
 use lib.ListN.{length}
-use Rattle.number.proofs.OverLaws.{taken-at}
-use Rattle.curve.specs.Curves.{stepsOf, blankStep}
-use Rattle.curve.specs.declared.Step.{Step}
+use Rattle.rules_number.proofs.OverLaws.{taken-at}
+use Rattle.rules_curve.specs.Curves.{stepsOf, blankStep}
+use Rattle.rules_curve.specs.declared.Step.{Step}
 use Rattle.resource.proofs.end_of.Statement.{statement}
 use Rattle.resource.proofs.end_of.Tie as tie
-use Rattle.resource.proofs.ResourceLaws.{end-last, end-none}
+use Rattle.rules_opening.proofs.ResourceLaws.{end-last, end-none}
 
 used-requires : tie.Need-used-requires
 used-requires c κs = search needs

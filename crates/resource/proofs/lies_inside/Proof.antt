@@ -3,7 +3,7 @@ use borrow.Author.Needs.{needs}
 use borrow.Author.Tests.{le-leb, lt-leb}
 use Rattle.resource.proofs.lies_inside.Statement.{statement}
 use Rattle.resource.proofs.lies_inside.Tie as tie
-use Rattle.resource.specs.Resources.{liesInside}
+use Rattle.rules_opening.specs.Resources.{liesInside}
 
 returns : tie.Need-returns
 unfolding liesInside

@@ -6,23 +6,23 @@ use native.Mathlib.Omega.{arith}
 use borrow.Author.Needs.{needs}
 use lib.ListN.{length, drop, length-append}
 use lib.Seq.{sets, length-sets}
-use Rattle.text.specs.Numbers.{Line, lines}
-use Rattle.text.specs.Tables.{faulty, found}
-use Rattle.curve.specs.Refusals.{outcomeNumber}
-use Rattle.path.specs.declared.Verdict.{Verdict}
-use Rattle.path.specs.declared.Market.{Market}
-use Rattle.resource.specs.declared.Row.{Row}
-use Rattle.engine.specs.Hours.{standingAt, hourRefusal, hourAfter}
-use Rattle.engine.specs.declared.Standing.{Standing}
-use Rattle.engine.specs.declared.Hour.{Hour}
-use Rattle.print.specs.Printing.{refusalText}
-use Rattle.parts.specs.Parts.{readInterval}
-use Rattle.parts.specs.Shown.{reading}
-use Rattle.curve.proofs.RefusalLaws.{refused-number}
-use Rattle.page.specs.Pages.{verdictText, curveText}
-use Rattle.text.proofs.ListLaws.{sets-append}
-use Rattle.run.specs.Run.{pageLeaving, pageOf, hourText}
-use Rattle.run.proofs.RunLaws.{number-few}
+use Rattle.rules_text.specs.Numbers.{Line, lines}
+use Rattle.rules_text.specs.Tables.{faulty, found}
+use Rattle.rules_curve.specs.Refusals.{outcomeNumber}
+use Rattle.rules_path.specs.declared.Verdict.{Verdict}
+use Rattle.rules_path.specs.declared.Market.{Market}
+use Rattle.rules_opening.specs.declared.Row.{Row}
+use Rattle.rules_hour.specs.Hours.{Hour, standingAt, hourRefusal, hourAfter}
+use Rattle.rules_hour.specs.declared.Standing.{Standing}
+use Rattle.engine.specs.Hours.{asHour}
+use Rattle.rules_text.specs.Printing.{refusalText}
+use Rattle.rules_parts.specs.Parts.{readInterval}
+use Rattle.read_interval.specs.Shown.{reading}
+use Rattle.rules_curve.proofs.RefusalLaws.{refused-number}
+use Rattle.rules_page.specs.Pages.{verdictText, curveText}
+use Rattle.rules_text.proofs.ListLaws.{sets-append}
+use Rattle.rules_run.specs.Run.{pageLeaving, pageOf, hourText}
+use Rattle.rules_run.proofs.RunLaws.{number-few}
 use Rattle.run.proofs.GoingLaws.{Going, positive, within, refused-room, read-faulty, read-found, going-start, going-end, going-faulty, going-refused, going-few, faulty-few, left-after, going-next}
 use Rattle.run.proofs.put_intervals.Statement.{statement}
 use Rattle.run.proofs.put_intervals.Tie as tie
@@ -43,7 +43,7 @@ abbrev begin : tie.At-loop Inv-loop μ-loop → tie.Start Inv-loop μ-loop
 begin l = l .before .before .before .before .before .before
 
 abbrev hour : tie.At-loop Inv-loop μ-loop → Hour
-hour l = standingAt (begin l .args .fresh) (l .loop .standing)
+hour l = standingAt (asHour (begin l .args .fresh)) (l .loop .standing)
 
 -- the lines at the loop's offset
 abbrev ahead : tie.At-loop Inv-loop μ-loop → List Line
@@ -71,20 +71,20 @@ is-found e =
     read-found (begin (e .before .before .before) .args .text .now) (r .interval) (r .line) (r .next) (r .fault) _ (e .if1 .left) (read (e .before))
 
 -- the number of a refusal
-refusal : (n : tie.After-number Inv-loop μ-loop)
-    → hourRefusal (hour (n .before .before .before .before .before .before .before .before .before .before)) (n .before .before .before .before .before .before .before .before .interval-at .result .interval) ≡ n .number .result
+refusal : (n : tie.After-refusal-number Inv-loop μ-loop)
+    → hourRefusal (hour (n .before .before .before .before .before .before .before .before .before .before)) (n .before .before .before .before .before .before .before .before .interval-at .result .interval) ≡ n .refusal-number .result
 refusal n =
-    sym (n .before .before .before .before .before .taken .ensures .0) ∙ ap outcomeNumber (n .before .before .before .outcome .given .1) ∙ sym (n .number .ensures)
+    sym (n .before .before .before .before .before .take-interval .ensures .0) ∙ ap outcomeNumber (n .before .before .before .outcome .given .1) ∙ sym (n .refusal-number .ensures)
 
 -- an accepted interval
 none : (t : tie.After-enum-told Inv-loop μ-loop)
     → hourRefusal (hour (t .before .before .before .before .before .before .before)) (t .before .before .before .before .before .interval-at .result .interval) ≡ 0
-none t = sym (t .before .before .taken .ensures .0) ∙ ap outcomeNumber (t .enum-told .given .1)
+none t = sym (t .before .before .take-interval .ensures .0) ∙ ap outcomeNumber (t .enum-told .given .1)
 
 loop-holds : tie.Need-loop-holds Inv-loop μ-loop
 loop-holds c =
     let s = c .before .before .before .before .before in
-    going-start (s .args .text .now) (s .args .out .now) (s .args .fresh) (s .args .start) (s .args .lines-before) (s .pre .0) (s .pre .1 .1)
+    going-start (s .args .text .now) (s .args .out .now) (asHour (s .args .fresh)) (s .args .start) (s .args .lines-before) (s .pre .0) (s .pre .1 .1)
 
 interval-at-requires : tie.Need-interval-at-requires Inv-loop μ-loop
 interval-at-requires c κs = search needs
@@ -111,14 +111,14 @@ same-length c =
     let l = t .before .before .before in
     ap length (q .put-refusal .ensures .0) ∙ length-sets (l .loop .out) (l .loop .p) (refusalText 17 (t .before .interval-at .result .fault)) ∙ l .loop .inv .put .long
 
-taken-requires : tie.Need-taken-requires Inv-loop μ-loop
-taken-requires c κs = search needs
+take-interval-requires : tie.Need-take-interval-requires Inv-loop μ-loop
+take-interval-requires c κs = search needs
 
 enum-known-outcome : tie.Need-enum-known-outcome Inv-loop μ-loop
 enum-known-outcome c = search needs
 
-number-requires : tie.Need-number-requires Inv-loop μ-loop
-number-requires c κs = search needs
+refusal-number-requires : tie.Need-refusal-number-requires Inv-loop μ-loop
+refusal-number-requires c κs = search needs
 
 put-refusal-requires-2 : tie.Need-put-refusal-requires-2 Inv-loop μ-loop
 put-refusal-requires-2 c κs =
@@ -126,7 +126,7 @@ put-refusal-requires-2 c κs =
     let l = e .before .before .before in
     let w = l .loop .inv in (
       omega (arith, w .few, w .high, w .put .long, begin l .pre .1 .0),
-      (omega (arith, c .number .ensures, number-few (c .before .before .before .outcome .given .0 .0)), omega (arith, left-after w (e .before .before .loop-test .taken) _ _ _ (is-found e))),
+      (omega (arith, c .refusal-number .ensures, number-few (c .before .before .before .outcome .given .0 .0)), omega (arith, left-after w (e .before .before .loop-test .taken) _ _ _ (is-found e))),
     )
 
 returns-2 : tie.Need-returns-2 Inv-loop μ-loop
@@ -138,8 +138,8 @@ returns-2 c =
     let w = l .loop .inv in
     let p = q .put-refusal2 .ensures in
     within
-    (going-refused w (e .before .before .loop-test .taken) _ _ _ (is-found e) (n .number .result) (q .put-refusal2 .last .0) (q .put-refusal2 .result) (refusal n)
-    (omega (arith, n .number .ensures, refused-number (n .before .before .before .outcome .given .0 .0))) (p .0) (p .1 .0))
+    (going-refused w (e .before .before .loop-test .taken) _ _ _ (is-found e) (n .refusal-number .result) (q .put-refusal2 .last .0) (q .put-refusal2 .result) (refusal n)
+    (omega (arith, n .refusal-number .ensures, refused-number (n .before .before .before .outcome .given .0 .0))) (p .0) (p .1 .0))
     (refused-room w (p .1 .1))
 
 same-length-2 : tie.Need-same-length-2 Inv-loop μ-loop
@@ -148,7 +148,7 @@ same-length-2 c =
     let n = q .before in
     let e = n .before .before .before .before .before .before .before in
     let l = e .before .before .before in
-    ap length (q .put-refusal2 .ensures .0) ∙ length-sets (l .loop .out) (l .loop .p) (refusalText (n .number .result) (e .before .interval-at .result .line)) ∙ l .loop .inv .put .long
+    ap length (q .put-refusal2 .ensures .0) ∙ length-sets (l .loop .out) (l .loop .p) (refusalText (n .refusal-number .result) (e .before .interval-at .result .line)) ∙ l .loop .inv .put .long
 
 enum-told : tie.Need-enum-told Inv-loop μ-loop
 enum-told c = search needs
@@ -170,7 +170,7 @@ put-curves-requires c κs =
     let t = g .before .before .before .before .before in
     let l = t .before .before .before .before .before .before .before in
     let v = t .before .before .before .before .before .interval-at .result .interval in
-    let long = ap length (g .put-verdicts .ensures .0) ∙ length-sets (l .loop .out) (l .loop .p) (verdictText (l .loop .i) (v .constraints) (t .before .before .taken .result .verdicts)) in
+    let long = ap length (g .put-verdicts .ensures .0) ∙ length-sets (l .loop .out) (l .loop .p) (verdictText (l .loop .i) (v .constraints) (t .before .before .take-interval .result .verdicts)) in
     omega (arith, page-room t, g .put-verdicts .ensures .1 .1, long)
 
 add-i : tie.Need-add-i Inv-loop μ-loop
@@ -190,17 +190,17 @@ loop-again c =
     let l = e .before .before .before in
     let f = begin l .args .fresh in
     let v = e .before .interval-at .result .interval in
-    let first = verdictText (l .loop .i) (v .constraints) (a .taken .result .verdicts) in
-    let second = curveText (l .loop .i) (f .market .resources) (f .rows) (a .taken .result .standing .floors) in
+    let first = verdictText (l .loop .i) (v .constraints) (a .take-interval .result .verdicts) in
+    let second = curveText (l .loop .i) (f .market .resources) (f .rows) (a .take-interval .result .standing .floors) in
     let same : first ++ second ≡ pageOf (l .loop .i) (hour l) v
-    = ap₂ (λ (s : Standing) (vs : List Verdict). pageLeaving (l .loop .i) (standingAt f s) (v .constraints) vs) (a .taken .ensures .1 .0) (a .taken .ensures .1 .1) in
+    = ap₂ (λ (s : Standing) (vs : List Verdict). pageLeaving (l .loop .i) (standingAt (asHour f) s) (v .constraints) vs) (a .take-interval .ensures .1 .0) (a .take-interval .ensures .1 .1) in
     let p = g .put-verdicts .ensures in
     let q = k .put-curves .ensures in
     let put : k .put-curves .last .0 ≡ sets (l .loop .out) (l .loop .p) (first ++ second)
     = q .0 ∙ ap₂ (λ (o : List ℕ) (j : ℕ). sets o j second) (p .0) (p .1 .0) ∙ sym (sets-append (l .loop .out) (l .loop .p) first second) in
     let next : k .put-curves .result ≡ l .loop .p + length (first ++ second) = omega (arith, p .1 .0, q .1 .0, length-append first second) in
     going-next (l .loop .inv) (e .before .before .loop-test .taken) v (e .before .interval-at .result .line) (e .before .interval-at .result .next) (is-found e) (none t)
-    (standingAt f (a .taken .result .standing)) (k .put-curves .last .0) (k .put-curves .result) (ap (standingAt f) (a .taken .ensures .1 .0))
+    (standingAt (asHour f) (a .take-interval .result .standing)) (k .put-curves .last .0) (k .put-curves .result) (ap (standingAt (asHour f)) (a .take-interval .ensures .1 .0))
     (put ∙ ap (sets (l .loop .out) (l .loop .p)) same) (next ∙ ap (λ (x : List ℕ). l .loop .p + length x) same) (omega (arith, p .1 .1, q .1 .1))
 
 same-length-3 : tie.Need-same-length-3 Inv-loop μ-loop
@@ -222,9 +222,9 @@ put-intervals-spec =
     put-refusal-requires
     same-length
     returns
-    taken-requires
+    take-interval-requires
     enum-known-outcome
-    number-requires
+    refusal-number-requires
     put-refusal-requires-2
     same-length-2
     returns-2

@@ -6,17 +6,18 @@ use native.Mathlib.Omega.{arith}
 use borrow.Author.Needs.{needs}
 use lib.ListN.{length, drop}
 use lib.Seq.{sets, length-sets}
-use Rattle.curve.specs.Refusals.{outcomeNumber}
-use Rattle.curve.proofs.RefusalLaws.{refused-number}
-use Rattle.opening.specs.Openings.{openingRefusal}
-use Rattle.engine.specs.declared.Hour.{Hour}
-use Rattle.text.specs.Numbers.{lines}
-use Rattle.text.specs.Tables.{faulty, found}
-use Rattle.print.specs.Printing.{refusalText}
-use Rattle.text.proofs.LineLaws.{lines-few}
-use Rattle.parts.specs.Parts.{readOpening}
-use Rattle.run.specs.Run.{hourText}
-use Rattle.run.proofs.RunLaws.{number-few, parts-faulty, parts-faulty-few, parts-refused, parts-accepted, parts-left, opened-fresh}
+use Rattle.rules_curve.specs.Refusals.{outcomeNumber}
+use Rattle.rules_curve.proofs.RefusalLaws.{refused-number}
+use Rattle.rules_opening.specs.Openings.{openingRefusal}
+use Rattle.rules_hour.specs.Hours.{Hour}
+use Rattle.engine.specs.Hours.{asHour}
+use Rattle.rules_text.specs.Numbers.{lines}
+use Rattle.rules_text.specs.Tables.{faulty, found}
+use Rattle.rules_text.specs.Printing.{refusalText}
+use Rattle.rules_text.proofs.LineLaws.{lines-few}
+use Rattle.rules_parts.specs.Parts.{readOpening}
+use Rattle.rules_run.specs.Run.{hourText}
+use Rattle.rules_run.proofs.RunLaws.{number-few, parts-faulty, parts-faulty-few, parts-refused, parts-accepted, parts-left, opened-fresh}
 use Rattle.run.proofs.GoingLaws.{positive, read-faulty, read-found}
 use Rattle.run.proofs.put_parts.Statement.{statement}
 use Rattle.run.proofs.put_parts.Tie as tie
@@ -43,9 +44,9 @@ puts : (out put : List ℕ) (t whole : List ℕ) (r : ℕ) → whole ≡ t → p
 puts out put t whole r e f g h = (f ∙ ap (sets out 0) (sym e), (omega (arith, g, ap length e), h))
 
 -- the number of a refusal
-refusal : (n : tie.After-number) → openingRefusal (n .before .before .before .before .before .before .before .opening-at .result .opening) ≡ n .number .result
+refusal : (n : tie.After-refusal-number) → openingRefusal (n .before .before .before .before .before .before .before .opening-at .result .opening) ≡ n .refusal-number .result
 refusal n =
-    sym (n .before .before .before .before .before .open .ensures .0) ∙ ap outcomeNumber (n .before .before .before .outcome .given .1) ∙ sym (n .number .ensures)
+    sym (n .before .before .before .before .before .open .ensures .0) ∙ ap outcomeNumber (n .before .before .before .outcome .given .1) ∙ sym (n .refusal-number .ensures)
 
 -- an accepted opening
 none : (t : tie.After-enum-told) → openingRefusal (t .before .before .before .before .opening-at .result .opening) ≡ 0
@@ -78,30 +79,30 @@ open-requires c κs = search needs
 enum-known-outcome : tie.Need-enum-known-outcome
 enum-known-outcome c = search needs
 
-number-requires : tie.Need-number-requires
-number-requires c κs = search needs
+refusal-number-requires : tie.Need-refusal-number-requires
+refusal-number-requires c κs = search needs
 
-abbrev opened : tie.After-number → tie.Else1
+abbrev opened : tie.After-refusal-number → tie.Else1
 opened n = n .before .before .before .before .before .before
 
 put-refusal-requires-2 : tie.Need-put-refusal-requires-2
 put-refusal-requires-2 c κs =
     let e = opened c in
-    (omega (arith, e .before .before .before .before .pre .0), (omega (arith, c .number .ensures, number-few (c .before .before .before .outcome .given .0 .0)), omega (arith, left e)))
+    (omega (arith, e .before .before .before .before .pre .0), (omega (arith, c .refusal-number .ensures, number-few (c .before .before .before .outcome .given .0 .0)), omega (arith, left e)))
 
 same-length-2 : tie.Need-same-length-2
 same-length-2 c =
     let q = c .before .before in
     let e = opened (q .before) in
-    ap length (q .put-refusal2 .ensures .0) ∙ length-sets (e .before .before .before .before .args .out .now) 0 (refusalText (q .before .number .result) (e .before .opening-at .result .line))
+    ap length (q .put-refusal2 .ensures .0) ∙ length-sets (e .before .before .before .before .args .out .now) 0 (refusalText (q .before .refusal-number .result) (e .before .opening-at .result .line))
 
 returns-2 : tie.Need-returns-2
 returns-2 c =
     let q = c .before .before in
     let n = q .before in
     let e = opened n in
-    puts (e .before .before .before .before .args .out .now) (q .put-refusal2 .last .0) (refusalText (n .number .result) (e .before .opening-at .result .line)) _ (q .put-refusal2 .result)
-    (parts-refused _ _ _ _ (is-found e) (n .number .result) (refusal n) (omega (arith, n .number .ensures, refused-number (n .before .before .before .outcome .given .0 .0)))) (q .put-refusal2 .ensures .0) (q .put-refusal2 .ensures .1 .0) (omega (arith, q .put-refusal2 .ensures .1 .1))
+    puts (e .before .before .before .before .args .out .now) (q .put-refusal2 .last .0) (refusalText (n .refusal-number .result) (e .before .opening-at .result .line)) _ (q .put-refusal2 .result)
+    (parts-refused _ _ _ _ (is-found e) (n .refusal-number .result) (refusal n) (omega (arith, n .refusal-number .ensures, refused-number (n .before .before .before .outcome .given .0 .0)))) (q .put-refusal2 .ensures .0) (q .put-refusal2 .ensures .1 .0) (omega (arith, q .put-refusal2 .ensures .1 .1))
 
 enum-told : tie.Need-enum-told
 enum-told c = search needs
@@ -119,7 +120,7 @@ put-intervals-requires c κs =
 abbrev rest : tie.After-enum-told → List ℕ
 rest t =
     let r = begun t .before .opening-at .result in
-    hourText (t .before .before .open .result .hour) (r .line) (lines (drop (r .next) (text (begun t .before))))
+    hourText (asHour (t .before .before .open .result .hour)) (r .line) (lines (drop (r .next) (text (begun t .before))))
 
 same-length-3 : tie.Need-same-length-3
 same-length-3 c =
@@ -147,7 +148,7 @@ put-parts-spec =
     returns
     open-requires
     enum-known-outcome
-    number-requires
+    refusal-number-requires
     put-refusal-requires-2
     same-length-2
     returns-2

@@ -5,9 +5,9 @@ use mathlib.Core.List.{List}
 use native.Mathlib.Omega.{arith}
 use lib.ListN.{length}
 use lib.Seq.{sets}
-use Rattle.page.specs.Pages.{printable, refusalRoom}
-use Rattle.print.specs.Printing.{refusalText}
-use Rattle.run.proofs.RunLaws.{put-to, put-full, refusal-few}
+use Rattle.rules_page.specs.Pages.{printable, refusalRoom}
+use Rattle.rules_text.specs.Printing.{refusalText}
+use Rattle.rules_run.proofs.RunLaws.{put-to, put-full, refusal-few}
 use borrow.Author.Needs.{needs}
 use Rattle.run.proofs.put_refusal.Statement.{statement}
 use Rattle.run.proofs.put_refusal.Tie as tie

@@ -1,7 +1,7 @@
 -- `run::put_verdicts` meets its contract. Assumes nothing.
-use Rattle.page.specs.Pages.{verdictText, verdictRoom}
+use Rattle.rules_page.specs.Pages.{verdictText, verdictRoom}
 use native.Mathlib.Omega.{arith}
-use Rattle.run.proofs.RunLaws.{put-to, put-full}
+use Rattle.rules_run.proofs.RunLaws.{put-to, put-full}
 use borrow.Author.Needs.{needs}
 use Rattle.run.proofs.put_verdicts.Statement.{statement}
 use Rattle.run.proofs.put_verdicts.Tie as tie

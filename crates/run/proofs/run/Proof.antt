@@ -3,10 +3,10 @@ use mathlib.Core.Path.{ap, _∙_}
 use native.Mathlib.Omega.{arith}
 use lib.ListN.{length}
 use lib.Seq.{length-sets}
-use Rattle.text.specs.Numbers.{lines}
-use Rattle.print.specs.Printing.{refusalText}
-use Rattle.run.specs.Run.{partsText}
-use Rattle.run.proofs.RunLaws.{too-small, too-long, ran-parts}
+use Rattle.rules_text.specs.Numbers.{lines}
+use Rattle.rules_text.specs.Printing.{refusalText}
+use Rattle.rules_run.specs.Run.{partsText}
+use Rattle.rules_run.proofs.RunLaws.{too-small, too-long, ran-parts}
 use Rattle.run.proofs.run.Statement.{statement}
 use Rattle.run.proofs.run.Tie as tie
 

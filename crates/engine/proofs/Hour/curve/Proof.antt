@@ -4,12 +4,12 @@ use mathlib.Core.Path.{_≡_, refl, sym, ap, ap₂, _∙_}
 use Prim.Native.Nat.{_≤_}
 use native.Mathlib.Omega.{arith}
 use lib.ListN.{length, length-map, List·getD-eq-default}
-use Rattle.number.specs.Over.{padded}
-use Rattle.curve.specs.Curves.{blankCurve}
-use Rattle.curve.specs.declared.Curve.{Curve}
-use Rattle.mitigation.specs.Mitigation.{segmentsN, joined, mitigated}
-use Rattle.mitigation.specs.declared.FloorPrice.the-variants.{Uncut}
-use Rattle.engine.specs.Hours.{uncut, noRow, rowCurve, curveIn}
+use Rattle.rules_number.specs.Over.{padded}
+use Rattle.rules_curve.specs.Curves.{blankCurve}
+use Rattle.rules_curve.specs.declared.Curve.{Curve}
+use Rattle.rules_mitigation.specs.Mitigation.{segmentsN, joined, mitigated}
+use Rattle.rules_mitigation.specs.declared.FloorPrice.the-variants.{Uncut}
+use Rattle.rules_hour.specs.Hours.{uncut, noRow, rowCurve, curveIn}
 use Rattle.engine.proofs.Hour.curve.Statement.{statement}
 use Rattle.engine.proofs.Hour.curve.Tie as tie
 
@@ -46,8 +46,8 @@ blank-requires c κs = search needs
 blank-requires-2 : tie.Need-blank-requires-2
 blank-requires-2 c κs = search needs
 
-of-requires : tie.Need-of-requires
-of-requires c κs = search needs
+mitigated-curve-requires : tie.Need-mitigated-curve-requires
+mitigated-curve-requires c κs = search needs
 
 returns : tie.Need-returns
 unfolding curveIn
@@ -60,7 +60,7 @@ returns-2 c =
     let a = s .args .t1 in
     let past : length (a .rows) ≤ s .args .r = omega (arith, rows-length s) in
     let behind : length (a .standing .floors) ≤ s .args .r = omega (arith, floors-length s) in
-    c .of .ensures ∙ ap₂ (λ (x y : Curve). mitigated Uncut x y) (c .before .before .blank .ensures) (c .before .blank2 .ensures) ∙ nothing
+    c .mitigated-curve .ensures ∙ ap₂ (λ (x y : Curve). mitigated Uncut x y) (c .before .before .blank .ensures) (c .before .blank2 .ensures) ∙ nothing
     ∙ ap₂ rowCurve (sym (List·getD-eq-default (a .rows) noRow past)) (sym (List·getD-eq-default (a .standing .floors) uncut behind))
 
 pub curve-spec : {M : Type 1} → statement M
@@ -74,6 +74,6 @@ curve-spec =
     row-curve-requires
     blank-requires
     blank-requires-2
-    of-requires
+    mitigated-curve-requires
     returns
     returns-2)

@@ -3,13 +3,12 @@ use Prim.Native.Nat.{ℕ, zero, suc}
 use mathlib.Core.Path.{_≡_, refl}
 use mathlib.Core.List.{List}
 use borrow.Author.Needs.{needs}
-use Rattle.path.specs.declared.Market.{Market}
-use Rattle.resource.specs.declared.Row.{Row}
-use Rattle.opening.specs.Openings.{openingRefusal, marketOf, rowsOf, marketUnless, rowsUnless}
-use Rattle.opening.specs.declared.Opening.{Opening}
-use Rattle.engine.specs.Hours.{freshStanding, blankHour}
-use Rattle.engine.specs.Openings.{freshHour, hourUnless, openedHour}
-use Rattle.engine.specs.declared.Hour.{Hour}
+use Rattle.rules_path.specs.declared.Market.{Market}
+use Rattle.rules_opening.specs.declared.Row.{Row}
+use Rattle.rules_opening.specs.Openings.{openingRefusal, marketOf, rowsOf, marketUnless, rowsUnless}
+use Rattle.rules_opening.specs.declared.Opening.{Opening}
+use Rattle.rules_hour.specs.Hours.{Hour, freshStanding, blankHour}
+use Rattle.rules_hour.specs.Opened.{freshHour, hourUnless, openedHour}
 use Rattle.engine.proofs.Hour.open.Statement.{statement}
 use Rattle.engine.proofs.Hour.open.Tie as tie
 

@@ -6,10 +6,10 @@ use native.Mathlib.Nat.{le-refl}
 use native.Mathlib.Omega.{arith}
 use lib.IntN.{ℤ, pos, negsuc, natAbs, _-ℤ_}
 use lib.Signed.{ltZ}
-use Rattle.number.proofs.Kit.{came, bd-abs, lt-true}
-use Rattle.number.proofs.Meant.{Meant, fits, arg, const, kept, _⊖_}
-use Rattle.number.proofs.OverLaws.{never}
-use Rattle.path.specs.Paths as Paths
+use Rattle.rules_number.proofs.Kit.{came, bd-abs, lt-true}
+use Rattle.rules_number.proofs.Meant.{Meant, fits, arg, const, kept, _⊖_}
+use Rattle.rules_number.proofs.OverLaws.{never}
+use Rattle.rules_path.specs.Paths as Paths
 use Rattle.path.proofs.constraint.effectiveness.Statement.{statement}
 use Rattle.path.proofs.constraint.effectiveness.Tie as tie
 

@@ -1,8 +1,8 @@
 -- `path::constraint::judge` meets its contract. Assumes nothing.
 use mathlib.Core.Path.{_∙_}
 use borrow.Author.Needs.{needs}
-use Rattle.number.proofs.Kit.{came}
-use Rattle.number.proofs.TestLaws.{above, not-above}
+use Rattle.rules_number.proofs.Kit.{came}
+use Rattle.rules_number.proofs.TestLaws.{above, not-above}
 use Rattle.path.proofs.JudgeLaws.{not-bound, offers-held, total-fits, judgement}
 use Rattle.path.proofs.constraint.judge.Statement.{statement}
 use Rattle.path.proofs.constraint.judge.Tie as tie

@@ -6,9 +6,9 @@ use Prim.Native.Nat.{ℕ, _≤_, _<_, _-_, _+_, _*_}
 use native.Mathlib.Omega.{arith}
 use lib.IntN.{ℤ, pos}
 use lib.ListN.{getD}
-use Rattle.number.specs.Order.{natOf}
-use Rattle.number.proofs.Kit.{came}
-use Rattle.path.specs.Paths.{effectiveness}
+use Rattle.rules_number.specs.Order.{natOf}
+use Rattle.rules_number.proofs.Kit.{came}
+use Rattle.rules_path.specs.Paths.{effectiveness}
 use Rattle.path.proofs.TallyLaws.{Added, added-start, added-none, added-known, added-unknown, tallied, Known, known, demand-room, supply-room, withholdable-room, prod-le, size-range}
 use Rattle.path.proofs.constraint.tally_of.Statement.{statement}
 use Rattle.path.proofs.constraint.tally_of.Tie as tie

@@ -5,9 +5,9 @@ use Prim.Native.Nat.{ℕ, _≤_, _<_, _+_, _^_}
 use native.Mathlib.Omega.{arith}
 use lib.ListN.{replicate}
 use lib.Pow.{pow-mono}
-use Rattle.path.specs.Paths.{at, top, total, mask}
-use Rattle.path.specs.Verdicts.{topOf}
-use Rattle.path.proofs.TopLaws.{stored, stored-all, total-taken, mask-taken, stored-taken, stopped, total-bound, mask-bound}
+use Rattle.rules_path.specs.Paths.{at, top, total, mask}
+use Rattle.path.specs.Tallies.{topOf}
+use Rattle.rules_path.proofs.TopLaws.{stored, stored-all, total-taken, mask-taken, stored-taken, stopped, total-bound, mask-bound}
 use Rattle.path.proofs.constraint.top_of.Statement.{statement}
 use Rattle.path.proofs.constraint.top_of.Tie as tie
 

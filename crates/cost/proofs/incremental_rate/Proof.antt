@@ -1,0 +1,107 @@
+-- `cost::incremental_rate` meets its contract. Assumes nothing.
+use mathlib.Core.Path.{_≡_, sym, ap₂, _∙_}
+use lib.IntN.{ℤ}
+use lib.Signed.{leZ}
+use borrow.Author.Needs.{needs}
+use Rattle.rules_number.specs.Order.{minZ, maxZ, natOf}
+use Rattle.rules_number.specs.Ceil.{ceilDiv}
+use Rattle.rules_number.proofs.Kit.{rd, came}
+use Rattle.rules_number.proofs.Meant.{Meant, fits, kept, const, _⊖_, _⊗_, held}
+use Rattle.rules_cost.specs.Costs.{isLimited, width, unlimited, incrementalRate}
+use Rattle.rules_cost.proofs.RangeLaws.{mw-size, heat-size}
+use Rattle.cost.proofs.incremental_rate.Statement.{statement}
+use Rattle.cost.proofs.incremental_rate.Tie as tie
+
+-- each expression of the code, with its integer and its bound
+abbrev m : tie.Start → Meant
+m s = held (mw-size (s .args .from .mw) (s .pre .0 .0)) tt
+
+abbrev m' : tie.Start → Meant
+m' s = held (mw-size (s .args .next .mw) (s .pre .0 .1 .0)) tt
+
+abbrev top : tie.Start → Meant
+top s = held (mw-size (s .args .pmax) (s .pre .0 .1 .1)) tt
+
+abbrev h : tie.Start → Meant
+h s = held (heat-size (s .args .from .heat) (s .pre .1 .0)) tt
+
+abbrev h' : tie.Start → Meant
+h' s = held (heat-size (s .args .next .heat) (s .pre .1 .1)) tt
+
+abbrev n : tie.Start → Meant
+n s = kept (h' s ⊗ m' s) tt ⊖ kept (h s ⊗ m s) tt
+
+abbrev w : tie.Start → Meant
+w s = m' s ⊖ m s
+
+mul-n : tie.Need-mul-n
+mul-n c = fits (h' (c .before .before) ⊗ m' (c .before .before)) tt
+
+mul-n-2 : tie.Need-mul-n-2
+mul-n-2 c = let s = c .before .before .before .before in fits (h s ⊗ m s) tt
+
+sub-n : tie.Need-sub-n
+sub-n c = fits (n (c .before .before .before .before)) tt
+
+sub-ceil-by : tie.Need-sub-ceil-by
+sub-ceil-by c = fits (w (c .before .before .before .before .before .before .before .before)) tt
+
+ceil-by-requires : tie.Need-ceil-by-requires
+ceil-by-requires c κs = search needs
+
+mul-if1 : tie.Need-mul-if1
+mul-if1 c = let s = c .before .before .before .before .before .before .before .before .before .before .before in fits (const 5 ⊗ m' s) tt
+
+mul-if1-2 : tie.Need-mul-if1-2
+mul-if1-2 c = let s = c .before .before .before .before .before .before .before .before .before .before .before in fits (const 4 ⊗ top s) tt
+
+max-requires : tie.Need-max-requires
+max-requires c κs = search needs
+
+min-requires : tie.Need-min-requires
+min-requires c κs = search needs
+
+-- R before the limit
+unlimited-is : (c : tie.After-ceil-by)
+    → rd (c .ceil-by .result) ≡ unlimited (c .before .before .before .before .before .before .before .before .before .args .from) (c .before .before .before .before .before .before .before .before .before .args .next)
+unfolding unlimited width
+unlimited-is c =
+    let s = c .before .before .before .before .before .before .before .before .before in
+    came (c .ceil-by .result) (c .ceil-by .ok) ∙ c .ceil-by .ensures ∙ ap₂ (λ (a b : ℤ). ceilDiv a (natOf b)) (kept (n s) tt .same) (kept (w s) tt .same)
+
+-- the limit's test
+limit-is : (s : tie.Start) → leZ (kept (const 5 ⊗ m' s) tt .code) (kept (const 4 ⊗ top s) tt .code) ≡ isLimited (s .args .pmax) (s .args .next .mw)
+limit-is s = ap₂ leZ (kept (const 5 ⊗ m' s) tt .same) (kept (const 4 ⊗ top s) tt .same)
+
+returns : tie.Need-returns
+unfolding incrementalRate
+returns c =
+    let s = c .before .before .before .before .before .before .before .before .before .before .before .before .before .before .before .before in
+    let b = c .before .before .before .before .before .before .before in
+    let t = sym (limit-is s) ∙ c .before .before .before .before .if1 .taken in
+    rw t (came (c .min .result) (c .min .ok) ∙ c .min .ensures
+    ∙ ap₂ minZ (unlimited-is b) (came (c .before .max .result) (c .before .max .ok) ∙ c .before .max .ensures ∙ ap₂ maxZ (h s .same) (h' s .same)))
+
+returns-2 : tie.Need-returns-2
+unfolding incrementalRate
+returns-2 c =
+    let s = c .before .before .before .before .before .before .before .before .before .before .before .before in
+    let b = c .before .before .before in
+    let t = sym (limit-is s) ∙ c .if1 .left in
+    rw t (unlimited-is b)
+
+pub incremental-rate-spec : {M : Type 1} → statement M
+incremental-rate-spec =
+    tie.close
+    (tie.spec
+    mul-n
+    mul-n-2
+    sub-n
+    sub-ceil-by
+    ceil-by-requires
+    mul-if1
+    mul-if1-2
+    max-requires
+    min-requires
+    returns
+    returns-2)

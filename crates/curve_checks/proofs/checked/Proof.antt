@@ -1,0 +1,93 @@
+-- `curve_checks::checked` meets its contract. Assumes nothing.
+use mathlib.Core.Bool.{true, false}
+use mathlib.Core.Path.{_≡_, refl, sym, _∙_}
+use Prim.Native.Nat.{_<_, _≤_}
+use native.Mathlib.Omega.{arith}
+use borrow.Author.Tests.{not-true, not-false, le-leb, lt-leb}
+use mir.Syntax.{w64}
+use mir.ValLaws.{toZ-ofZ}
+use Rattle.rules_curve.specs.Curves.{countGood}
+use Rattle.rules_curve.specs.declared.RawCurve.{RawCurve}
+use Rattle.rules_curve.proofs.CheckLaws.{refused-count, refused-edge, refused-price, taken-curve}
+use borrow.Author.Needs.{needs}
+use Rattle.curve_checks.proofs.checked.Statement.{statement}
+use Rattle.curve_checks.proofs.checked.Tie as tie
+
+-- the count's test
+over : (c : RawCurve) → 10 < c .count → countGood c ≡ false
+over c h = rw (le-leb 1 (c .count) (omega arith), lt-leb (c .count) 10 h)
+
+within : (c : RawCurve) → 1 ≤ c .count → c .count ≤ 10 → countGood c ≡ true
+within c l h = rw (le-leb 1 (c .count) l, le-leb (c .count) 10 h)
+
+refused-requires : tie.Need-refused-requires
+refused-requires c κs = search needs
+
+returns : tie.Need-returns
+returns c =
+    let s = c .before .before in
+    rw (c .refused .ensures, refused-count (s .args .low) (s .args .top) (s .args .raw) (rw (c .before .if1 .taken))) (refl, refl)
+
+refused-requires-2 : tie.Need-refused-requires-2
+refused-requires-2 c κs = search needs
+
+returns-2 : tie.Need-returns-2
+returns-2 c =
+    let s = c .before .before .before in
+    rw (c .refused2 .ensures, refused-count (s .args .low) (s .args .top) (s .args .raw) (over (s .args .raw) (omega arith))) (refl, refl)
+
+edges-good-requires : tie.Need-edges-good-requires
+edges-good-requires c κs = search needs
+
+refused-requires-3 : tie.Need-refused-requires-3
+refused-requires-3 c κs = search needs
+
+returns-3 : tie.Need-returns-3
+returns-3 c =
+    let s = c .before .before .before .before .before in
+    let e = sym (c .before .before .edges-good .ensures) ∙ not-true _ (c .before .if3 .taken) in
+    rw (c .refused3 .ensures, refused-edge (s .args .low) (s .args .top) (s .args .raw) (within (s .args .raw) (omega arith) (omega arith)) e) (refl, refl)
+
+prices-good-requires : tie.Need-prices-good-requires
+prices-good-requires c κs = search needs
+
+refused-requires-4 : tie.Need-refused-requires-4
+refused-requires-4 c κs = search needs
+
+returns-4 : tie.Need-returns-4
+returns-4 c =
+    let s = c .before .before .before .before .before .before .before in
+    let e = sym (c .before .before .before .before .edges-good .ensures) ∙ not-false _ (c .before .before .before .if3 .left) in
+    let fl = toZ-ofZ w64 (s .args .low) (s .fits .low) in
+    let ft = toZ-ofZ w64 (s .args .top) (s .fits .top) in
+    let p = sym (simp (fl, ft) at (c .before .before .prices-good .ensures)) ∙ not-true _ (c .before .if4 .taken) in
+    rw (c .refused4 .ensures, refused-price (s .args .low) (s .args .top) (s .args .raw) (within (s .args .raw) (omega arith) (omega arith)) e p) (refl, refl)
+
+settled-requires : tie.Need-settled-requires
+settled-requires c κs = search needs
+
+returns-5 : tie.Need-returns-5
+returns-5 c =
+    let s = c .before .before .before .before .before .before .before in
+    let e = sym (c .before .before .before .before .edges-good .ensures) ∙ not-false _ (c .before .before .before .if3 .left) in
+    let fl = toZ-ofZ w64 (s .args .low) (s .fits .low) in
+    let ft = toZ-ofZ w64 (s .args .top) (s .fits .top) in
+    let p = sym (simp (fl, ft) at (c .before .before .prices-good .ensures)) ∙ not-false _ (c .before .if4 .left) in
+    rw (c .settled .ensures, taken-curve (s .args .low) (s .args .top) (s .args .raw) (within (s .args .raw) (omega arith) (omega arith)) e p) (refl, refl)
+
+pub checked-spec : {M : Type 1} → statement M
+checked-spec =
+    tie.close
+    (tie.spec
+    refused-requires
+    returns
+    refused-requires-2
+    returns-2
+    edges-good-requires
+    refused-requires-3
+    returns-3
+    prices-good-requires
+    refused-requires-4
+    returns-4
+    settled-requires
+    returns-5)

@@ -1,3 +1,0 @@
--- Laws of intervals.
-pub mod FactorLaws
-pub mod IntervalLaws

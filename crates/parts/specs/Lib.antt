@@ -1,3 +1,0 @@
--- Definitions that the contracts of the crate cite. Their laws stand in proofs/.
-pub mod Parts
-pub mod Shown

@@ -1,2 +1,0 @@
--- Laws of a resource's opening.
-pub mod ResourceLaws

@@ -1,0 +1,160 @@
+-- Default curves worked out: P1, P3 and P4 of paper 01, and costs at the edge of each rule and range.
+use mathlib.Core.Bool.{true, false}
+use mathlib.Core.List.{List, [], _∷_}
+use mathlib.Core.Path.{_≡_, refl}
+use Prim.Native.Nat.{ℕ}
+use lib.IntN.{pos, negℤ}
+use lib.ListN.{length, replicate}
+use Rattle.rules_number.specs.Order.{inRange}
+use Rattle.rules_number.specs.Over.{allTo, highestTo, listed, padded}
+use Rattle.rules_curve.specs.Curves.{stepTo, stepsOf}
+use Rattle.rules_cost.specs.Costs.{width, unlimited, isLimited, incrementalRate, fuel, greenhouse, feePart, stepCost, withAdder, rateAt, largestRate, stepPrice, raisedPrice, costCurve, mwSuits, mwGood, heatGood, chargesInRange, pricesInRange, ratesGood, costRefusal}
+use Rattle.rules_cost.specs.declared.Point.{Point}
+use Rattle.rules_cost.specs.declared.Costs.{Costs}
+
+abbrev pub point : ℕ → ℕ → Point
+point m h = record { mw = pos m; heat = pos h }
+
+-- costs with these points, gas, rate, allowance and fee, and no other charge
+abbrev pub costsOf : List Point → ℕ → ℕ → ℕ → ℕ → Costs
+costsOf l gas rate allowance fee =
+    record { count = length l; points = l; gas = pos gas; rate = pos rate; allowance = pos allowance; om = pos 0; msc = pos 0; soc = pos 0; fee = pos fee }
+
+-- Case T's costs
+abbrev pub costsT : Costs
+costsT = record {
+  count = 3;
+  points = point 10000 10000 ∷ point 20000 9000 ∷ point 30000 9500 ∷ [];
+  gas = pos 40000;
+  rate = pos 0;
+  allowance = pos 0;
+  om = pos 20000;
+  msc = pos 1000;
+  soc = pos 3000;
+  fee = pos 50;
+}
+
+-- two points 3 apart, with n = 10 and with n = -10
+abbrev pub rising : Costs
+rising = costsOf (point 2 5 ∷ point 5 4 ∷ []) 0 0 0 0
+
+abbrev pub falling : Costs
+falling = costsOf (point 2 10 ∷ point 5 2 ∷ []) 0 0 0 0
+
+-- PMax 30000 and a first step that ends at m
+abbrev pub endingAt : ℕ → Costs
+endingAt m = costsOf (point 10000 100 ∷ point m 200 ∷ point 30000 200 ∷ []) 0 0 0 0
+
+-- R falls from 10000 to 4995, and the second step is narrow
+abbrev pub narrow : Costs
+narrow = costsOf (point 0 10000 ∷ point 10000 10000 ∷ point 10010 9995 ∷ []) 1000 200000 1000000 1000000
+
+-- one step of width 3, with these costs
+abbrev pub small : ℕ → ℕ → ℕ → ℕ → Costs
+small = costsOf (point 0 1 ∷ point 3 1 ∷ [])
+
+-- one step of width 3, with the charges om, msc and soc alone
+abbrev pub charged : ℕ → ℕ → ℕ → Costs
+charged om msc soc =
+    record { count = 2; points = point 0 1 ∷ point 3 1 ∷ []; gas = pos 0; rate = pos 0; allowance = pos 0; om = pos om; msc = pos msc; soc = pos soc; fee = pos 0 }
+
+-- one step from -1, and one with a gas price of -1
+abbrev pub belowZero : Costs
+belowZero = costsOf (record { mw = negℤ (pos 1); heat = pos 1 } ∷ point 3 1 ∷ []) 0 0 0 0
+
+abbrev pub gasBelowZero : Costs
+gasBelowZero =
+    record { count = 2; points = point 0 1 ∷ point 3 1 ∷ []; gas = negℤ (pos 1); rate = pos 0; allowance = pos 0; om = pos 0; msc = pos 0; soc = pos 0; fee = pos 0 }
+
+pub record Worked : Type 0 where
+  -- P1: T's costs give 378402, 488402
+  pub p1 : stepsOf (costCurve costsT) ≡ stepTo 20000 (pos 378402) ∷ stepTo 30000 (pos 488402) ∷ []
+  pub p1-start : costCurve costsT .start ≡ 10000
+  pub p1-taken : costRefusal costsT ≡ 0
+  -- P3: n 10, w 3: R 4; n -10: -3
+  pub p3-up : rateAt rising 0 ≡ pos 4
+  pub p3-down : rateAt falling 0 ≡ negℤ (pos 3)
+  -- P4: PMax 30000: end 24000 is limited, 24001 isn't
+  pub p4-limited : isLimited (pos 30000) (pos 24000) ≡ true
+  pub p4-not : isLimited (pos 30000) (pos 24001) ≡ false
+  pub p4-rate-limited : rateAt (endingAt 24000) 0 ≡ pos 200
+  pub p4-rate-not : rateAt (endingAt 24001) 0 ≡ pos 272
+  -- a negative R: fuel, greenhouse and fee part each rounded up, then the price
+  pub below-zero : stepsOf (costCurve (costsOf (point 10 100 ∷ point 20 1 ∷ []) 1000 200000 1000000 3)) ≡ stepTo 20 (negℤ (pos 21634)) ∷ []
+  -- each part is rounded by itself
+  pub each-part : stepsOf (costCurve (small 1 1 1 1)) ≡ stepTo 3 (pos 40) ∷ []
+  -- fuel from the largest R so far, greenhouse from R, fee part over the step's own width
+  pub from-M-and-R : stepsOf (costCurve narrow) ≡ stepTo 10000 (pos 2222000) ∷ stepTo 10010 (pos 12109900) ∷ []
+  -- a narrow step's fee exceeds its right neighbour's: the second is raised from 112
+  pub second : stepPrice (costsOf (point 0 1 ∷ point 1 1 ∷ point 1000 1 ∷ []) 0 0 0 1000) 1 ≡ pos 112
+  pub raised : stepsOf (costCurve (costsOf (point 0 1 ∷ point 1 1 ∷ point 1000 1 ∷ []) 0 0 0 1000)) ≡ stepTo 1 (pos 110000) ∷ stepTo 1000 (pos 110000) ∷ []
+  -- 4: one point or twelve
+  pub one-point : costRefusal (costsOf (point 0 1 ∷ []) 0 0 0 0) ≡ 4
+  pub twelve-points : costRefusal (costsOf (replicate 12 (point 0 1)) 0 0 0 0) ≡ 4
+  -- 5: m below 0, beyond 1,000,000, or not above the one before it; it comes before 6
+  pub under-the-bottom : costRefusal belowZero ≡ 5
+  pub at-the-top : costRefusal (costsOf (point 0 1 ∷ point 1000000 1 ∷ []) 0 0 0 0) ≡ 0
+  pub past-the-top : costRefusal (costsOf (point 0 1 ∷ point 1000001 1 ∷ []) 0 0 0 0) ≡ 5
+  pub level : costRefusal (costsOf (point 3 1 ∷ point 3 1 ∷ []) 0 0 0 0) ≡ 5
+  pub five-before-six : costRefusal (costsOf (point 3 0 ∷ point 3 1 ∷ []) 0 0 0 0) ≡ 5
+  -- 6: h of 0, or above 100,000
+  pub no-heat : costRefusal (costsOf (point 0 0 ∷ point 3 1 ∷ []) 0 0 0 0) ≡ 6
+  pub most-heat : costRefusal (costsOf (point 0 100000 ∷ point 3 100000 ∷ []) 0 0 0 0) ≡ 0
+  pub more-heat : costRefusal (costsOf (point 0 100001 ∷ point 3 1 ∷ []) 0 0 0 0) ≡ 6
+  -- 7: gas, rate, allowance or a charge outside its range
+  pub all-at-most : costRefusal (small 1000000 200000 10000000 1000000) ≡ 0
+  pub more-gas : costRefusal (small 1000001 0 0 0) ≡ 7
+  pub more-rate : costRefusal (small 0 200001 0 0) ≡ 7
+  pub more-allowance : costRefusal (small 0 0 10000001 0) ≡ 7
+  pub more-fee : costRefusal (small 0 0 0 1000001) ≡ 7
+  pub charges-at-most : costRefusal (charged 1000000 1000000 1000000) ≡ 0
+  pub more-om : costRefusal (charged 1000001 0 0) ≡ 7
+  pub more-msc : costRefusal (charged 0 1000001 0) ≡ 7
+  pub more-soc : costRefusal (charged 0 0 1000001) ≡ 7
+  pub gas-below : costRefusal gasBelowZero ≡ 7
+  -- 8: an R of some 285,000,000 in the last step, which has no limit; and one that the limit brings down to 100,000
+  pub last-too-steep : costRefusal (costsOf (point 10000 10000 ∷ point 29999 1 ∷ point 30000 9500 ∷ []) 40000 0 0 50) ≡ 8
+  pub saved-by-limit : costRefusal (costsOf (point 0 1 ∷ point 999 1 ∷ point 1000 100000 ∷ point 2000 100000 ∷ []) 0 0 0 0) ≡ 0
+
+pub worked : Worked
+unfolding inRange allTo highestTo listed padded
+    width unlimited incrementalRate fuel greenhouse feePart stepCost withAdder rateAt largestRate stepPrice raisedPrice costCurve
+    mwSuits mwGood heatGood chargesInRange pricesInRange ratesGood costRefusal
+worked = record {
+  p1 = refl;
+  p1-start = refl;
+  p1-taken = refl;
+  p3-up = refl;
+  p3-down = refl;
+  p4-limited = refl;
+  p4-not = refl;
+  p4-rate-limited = refl;
+  p4-rate-not = refl;
+  below-zero = refl;
+  each-part = refl;
+  from-M-and-R = refl;
+  second = refl;
+  raised = refl;
+  one-point = refl;
+  twelve-points = refl;
+  under-the-bottom = refl;
+  at-the-top = refl;
+  past-the-top = refl;
+  level = refl;
+  five-before-six = refl;
+  no-heat = refl;
+  most-heat = refl;
+  more-heat = refl;
+  all-at-most = refl;
+  more-gas = refl;
+  more-rate = refl;
+  more-allowance = refl;
+  more-fee = refl;
+  charges-at-most = refl;
+  more-om = refl;
+  more-msc = refl;
+  more-soc = refl;
+  gas-below = refl;
+  last-too-steep = refl;
+  saved-by-limit = refl;
+}

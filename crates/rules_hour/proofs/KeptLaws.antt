@@ -1,0 +1,134 @@
+-- What a call does to an hour, and what every call keeps: the market, and the bid and default curve of each resource.
+use mathlib.Core.Bool.{Bool}
+use mathlib.Core.List.{List, [], _∷_, _++_}
+use mathlib.Core.Logic.{⊎-elim}
+use mathlib.Core.Path.{_≡_, refl, sym, ap, ap₂, _∙_}
+use Prim.Native.Nat.{ℕ, zero, suc, _≤_, _<_}
+use native.Mathlib.Nat.{zero-add, le-trans, le-of-eq}
+use borrow.Author.Tests.{lt-ltb, le-ltb}
+use lib.Dec.{ltb}
+use lib.ListN.{length}
+use Rattle.rules_number.proofs.OverLaws.{le-or-lt, upTo-in, upTo-length}
+use Rattle.rules_curve.specs.Refusals.{unless, _then_}
+use Rattle.rules_curve.specs.declared.Curve.{Curve}
+use Rattle.rules_mitigation.specs.Mitigation.{mitigated}
+use Rattle.rules_interval.specs.Intervals.{intervalRefusal}
+use Rattle.rules_interval.specs.declared.Interval.{Interval}
+use Rattle.rules_path.specs.declared.Market.{Market}
+use Rattle.rules_hour.specs.Cuts.{cutOf}
+use Rattle.rules_hour.specs.Hours.{uncut, rowAt, floorIn, curveIn, cutFloor, nextStanding, callRefusal, standingUnless, standingAfter, standingAt, hourRefusal, hourAfter, hourAfterAll}
+use Rattle.rules_opening.specs.Openings.{marketOf, openingRefusal}
+use Rattle.rules_hour.specs.Opened.{freshHour, openedHour}
+use Rattle.rules_hour.specs.Demand3.{submitted, defaultOf, hourOf}
+use Rattle.rules_opening.specs.declared.Row.{Row}
+use Rattle.rules_hour.specs.Hours.{Hour}
+use Rattle.rules_opening.specs.declared.Opening.{Opening}
+use Rattle.rules_hour.proofs.AcceptedOpening.{opened-hour, fresh-row, fresh-room}
+use Rattle.rules_opening.specs.Resources.{rowOf}
+
+-- ---- one call
+-- the hour after an interval that it accepts
+abbrev pub nextHour : Hour → Interval → Hour
+nextHour h v = standingAt h (nextStanding (h .market) (h .standing) v)
+
+-- the three ways of a call: 12, 13 to 16, or accepted
+pub data Call (h : Hour) (v : Interval) : Type 0 where
+  full : 4 ≤ h .standing .accepted → hourAfter h v ≡ h → Call h v
+  faulty : (n : ℕ) → intervalRefusal (h .market .resources) v ≡ suc n → hourAfter h v ≡ h → Call h v
+  taken : h .standing .accepted < 4 → intervalRefusal (h .market .resources) v ≡ 0 → hourAfter h v ≡ nextHour h v → Call h v
+
+-- a call by its two tests
+by-tests : (h : Hour) (v : Interval) {t : Bool} {n : ℕ} → ltb (h .standing .accepted) 4 ≡ t → intervalRefusal (h .market .resources) v ≡ n
+    → hourAfter h v ≡ standingAt h (standingUnless (unless t 12 then n) (nextStanding (h .market) (h .standing) v) (h .standing))
+unfolding hourAfter standingAfter callRefusal
+by-tests h v = ap₂ (λ (t : Bool) (n : ℕ). standingAt h (standingUnless (unless t 12 then n) (nextStanding (h .market) (h .standing) v) (h .standing)))
+
+-- every call goes one of them
+pub call : (h : Hour) (v : Interval) → Call h v
+call h v = ⊎-elim (λ l. full l (by-tests h v (le-ltb (h .standing .accepted) 4 l) refl)) (λ l. go l (intervalRefusal (h .market .resources) v) refl) (le-or-lt 4 (h .standing .accepted))
+  where
+    go : h .standing .accepted < 4 → (n : ℕ) → intervalRefusal (h .market .resources) v ≡ n → Call h v
+    go l zero e = taken l e (by-tests h v (lt-ltb (h .standing .accepted) 4 l) e)
+    go l (suc n) e = faulty n e (by-tests h v (lt-ltb (h .standing .accepted) 4 l) e)
+
+-- an accepted call gives the next hour, and a refused one leaves the hour as it was
+module _ (h : Hour) (v : Interval) where
+  pub accepted-call : hourRefusal h v ≡ 0 → hourAfter h v ≡ nextHour h v
+  unfolding hourAfter standingAfter
+  accepted-call e = ap (λ (n : ℕ). standingAt h (standingUnless n (nextStanding (h .market) (h .standing) v) (h .standing))) e
+
+  pub refused-call : (n : ℕ) → hourRefusal h v ≡ suc n → hourAfter h v ≡ h
+  unfolding hourAfter standingAfter
+  refused-call n e = ap (λ (m : ℕ). standingAt h (standingUnless m (nextStanding (h .market) (h .standing) v) (h .standing))) e
+
+-- the hour after a list and one more call
+pub one-more : (h : Hour) (calls : List Interval) (v : Interval) → hourAfterAll h (calls ++ (v ∷ [])) ≡ hourAfter (hourAfterAll h calls) v
+unfolding hourAfterAll
+one-more h [] v = refl
+one-more h (u ∷ calls) v = one-more (hourAfter h u) calls v
+
+-- ---- what every call keeps
+-- the opening's market, the submitted bid and the default curve of each resource, and a floor price for each
+pub record Kept (o : Opening) (h : Hour) : Type 0 where
+  pub market : h .market ≡ marketOf o
+  pub room : o .resources ≤ length (h .standing .floors)
+  pub bid : (r : ℕ) → r < o .resources → rowAt h r .bid ≡ submitted o r
+  pub default : (r : ℕ) → r < o .resources → rowAt h r .default ≡ defaultOf o r
+
+module _ (o : Opening) (h : Hour) (k : Kept o h) where
+  -- the hour has the opening's resources
+  pub resources-kept : h .market .resources ≡ o .resources
+  unfolding marketOf
+  resources-kept = ap (λ (m : Market). m .resources) (k .market)
+
+  -- an accepted call cuts each floor price
+  pub next-floor : (v : Interval) (r : ℕ) → r < o .resources → floorIn (nextHour h v) r ≡ cutFloor (cutOf (marketOf o) v r) (floorIn h r)
+  unfolding nextStanding
+  next-floor v r l =
+      upTo-in (λ i x. cutFloor (cutOf (h .market) v i) x) uncut 0 (h .market .resources) (h .standing .floors) r
+      (le-trans l (le-of-eq (sym resources-kept))) (le-trans l (k .room))
+      ∙ ap₂ (λ (m : Market) (i : ℕ). cutFloor (cutOf m v i) (floorIn h r)) (k .market) (zero-add r)
+
+  -- and keeps the rest
+  pub next-kept : (v : Interval) → Kept o (nextHour h v)
+  unfolding nextStanding
+  next-kept v = record {
+    market = k .market;
+    room = le-trans (k .room) (le-of-eq (sym (upTo-length (λ i x. cutFloor (cutOf (h .market) v i) x) uncut 0 (h .market .resources) (h .standing .floors))));
+    bid = k .bid;
+    default = k .default;
+  }
+
+  -- so does any call
+  pub call-kept : (v : Interval) → Kept o (hourAfter h v)
+  call-kept v = go (call h v)
+    where
+      go : Call h v → Kept o (hourAfter h v)
+      go (full f e) = rw e k
+      go (faulty n f e) = rw e k
+      go (taken f g e) = rw e (next-kept v)
+
+  -- a row's curve, from the submitted bid and the default curve
+  pub kept-curve : (r : ℕ) → r < o .resources → curveIn h r ≡ mitigated (floorIn h r .price) (submitted o r) (defaultOf o r)
+  unfolding curveIn
+  kept-curve r l = ap₂ (λ (x y : Curve). mitigated (floorIn h r .price) x y) (k .bid r l) (k .default r l)
+
+-- any list of calls keeps it
+pub list-kept : (o : Opening) (calls : List Interval) (h : Hour) → Kept o h → Kept o (hourAfterAll h calls)
+unfolding hourAfterAll
+list-kept o [] h k = k
+list-kept o (v ∷ calls) h k = list-kept o calls (hourAfter h v) (call-kept o h k v)
+
+-- the fresh hour has it
+pub fresh-kept : (o : Opening) → openingRefusal o ≡ 0 → Kept o (freshHour o)
+unfolding freshHour rowOf
+fresh-kept o accepted = record {
+  market = refl;
+  room = fresh-room o accepted;
+  bid = λ r l. ap (λ (x : Row). x .bid) (fresh-row o r l);
+  default = λ r l. ap (λ (x : Row). x .default) (fresh-row o r l);
+}
+
+-- so has the hour after any list, from the hour that opening returned
+pub hour-kept : (o : Opening) (calls : List Interval) → openingRefusal o ≡ 0 → Kept o (hourOf o calls)
+hour-kept o calls accepted = list-kept o calls (openedHour o) (rw (opened-hour o accepted) (fresh-kept o accepted))

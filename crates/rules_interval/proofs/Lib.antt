@@ -1,0 +1,4 @@
+-- What the definitions mean, their laws, and worked cases.
+pub mod FactorLaws
+pub mod IntervalLaws
+pub mod Exactly

@@ -1,0 +1,4 @@
+-- What the definitions mean, their laws, and worked cases.
+pub mod Meaning
+pub mod Examples
+pub mod SliceLaws

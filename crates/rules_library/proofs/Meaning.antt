@@ -1,0 +1,79 @@
+-- What noskjerf_default writes: 12 edges and 10 prices, where the costs are accepted, and nothing past them. Assumes nothing.
+use Prim.Native.Nat.{ℕ, zero, suc, _+_, _≤_, _<_}
+use mathlib.Core.Path.{_≡_, refl, _∙_}
+use mathlib.Core.Bool.{Bool, true, false, cond}
+use mathlib.Core.List.{List, [], _∷_}
+use native.Mathlib.Omega.{arith}
+use borrow.Author.Tests.{leb-true, le-leb, lt-leb}
+use lib.Dec.{leb}
+use lib.IntN.{ℤ, pos, negsuc}
+use lib.ListN.{length, getD, set, length-map}
+use lib.Seq.{sets, getD-set-other}
+use Rattle.rules_number.specs.Over.{listed}
+use Rattle.rules_number.proofs.OverLaws.{both, listed-length, padded-length}
+use Rattle.rules_curve.specs.Curves.{blankStep}
+use Rattle.rules_curve.proofs.CheckLaws.{then-both, unless-holds}
+use Rattle.rules_cost.specs.Costs.{stepCount, costStep, costCurve, pointsGood, costRefusal}
+use Rattle.rules_cost.specs.declared.Costs.{Costs}
+use Rattle.rules_run.specs.Run.{runRoom, ranTo}
+use Rattle.rules_library.specs.Answers.{ranNumber}
+use Rattle.rules_library.specs.Slices.{edgesOf, pricesOf, hasRoom, defaultAnswer, ifWritten, edgesAfter, pricesAfter}
+
+module _ (c : Costs) (z : costRefusal c ≡ 0) where
+  few-steps : stepCount c ≤ 10
+  unfolding costRefusal
+  few-steps =
+      let p = unless-holds (pointsGood c) 3 (then-both _ _ (then-both _ _ (then-both _ _ (then-both _ _ z .0) .0) .0) .0) in
+      omega (arith, leb-true (c .count) 11 (both (leb 2 (c .count)) (leb (c .count) 11) p .1))
+
+  ten-steps : length (costCurve c .steps) ≡ 10
+  unfolding costCurve
+  ten-steps = padded-length 10 blankStep (listed (costStep c) (stepCount c)) (omega (arith, few-steps, listed-length (costStep c) (stepCount c)))
+
+  pub edges-size : length (edgesOf (costCurve c)) ≡ 12
+  edges-size = simp length-map (omega (arith, ten-steps))
+
+  pub prices-size : length (pricesOf (costCurve c)) ≡ 10
+  prices-size = simp length-map ten-steps
+
+-- a cell past a run of stores
+past : {A : Type 0} (d : A) (l : List A) (i : ℕ) (a : List A) (k : ℕ) → i + length a ≤ k → getD (sets l i a) k d ≡ getD l k d
+past d l i [] k h = refl
+past d l i (x ∷ a) k h = past d (set l i x) (suc i) a k (omega arith) ∙ getD-set-other l i k x d (λ e. omega arith)
+
+module _ (edges : List ℕ) (prices : List ℤ) (c : Costs) where
+  -- the answer is 0 only where the costs are accepted
+  pub zero-accepted : defaultAnswer edges prices c ≡ pos 0 → costRefusal c ≡ 0
+  unfolding defaultAnswer
+  zero-accepted = go (hasRoom edges prices)
+    where
+      go : (b : Bool) → cond b (pos (costRefusal c)) (negsuc 0) ≡ pos 0 → costRefusal c ≡ 0
+      go true e = cc
+      go false e = absurd (let o : _≡_ {A = ℕ} 0 1 = cc in omega arith)
+
+  -- what the written slice and the one before it have in common
+  either : {A : Type 0} (d : A) (k : ℕ) (written before : List A) → (costRefusal c ≡ 0 → getD written k d ≡ getD before k d)
+      → getD (ifWritten (defaultAnswer edges prices c) written before) k d ≡ getD before k d
+  either {A} d k written before h = go (defaultAnswer edges prices c) refl
+    where
+      go : (r : ℤ) → defaultAnswer edges prices c ≡ r → getD (ifWritten r written before) k d ≡ getD before k d
+      go (pos zero) e = h (zero-accepted e)
+      go (pos (suc n)) e = refl
+      go (negsuc n) e = refl
+
+  pub edges-past : (k : ℕ) → 12 ≤ k → getD (edgesAfter edges prices c) k 0 ≡ getD edges k 0
+  unfolding edgesAfter
+  edges-past k h = either 0 k (sets edges 0 (edgesOf (costCurve c))) edges (λ z. past 0 edges 0 (edgesOf (costCurve c)) k (omega (arith, edges-size c z)))
+
+  pub prices-past : (k : ℕ) → 10 ≤ k → getD (pricesAfter edges prices c) k (pos 0) ≡ getD prices k (pos 0)
+  unfolding pricesAfter
+  prices-past k h = either (pos 0) k (sets prices 0 (pricesOf (costCurve c))) prices (λ z. past (pos 0) prices 0 (pricesOf (costCurve c)) k (omega (arith, prices-size c z)))
+
+-- ---- a run's answer: how many bytes were printed, or -1 where the page is too small
+pub ran-counts : (page printed : List ℕ) → runRoom ≤ length page → ranNumber (ranTo page printed) ≡ pos (length printed)
+unfolding ranTo
+ran-counts page printed h = rw (le-leb runRoom (length page) h)
+
+pub ran-too-small : (page printed : List ℕ) → length page < runRoom → ranNumber (ranTo page printed) ≡ negsuc 0
+unfolding ranTo
+ran-too-small page printed h = rw (lt-leb runRoom (length page) h)

@@ -1,0 +1,84 @@
+-- What is read from lent slices of numbers, and what is written to them.
+use Prim.Native.Nat.{ℕ, zero, suc, _+_, _*_}
+use mathlib.Core.Bool.{Bool, cond, _&&_}
+use mathlib.Core.List.{List, _∷_, map}
+use lib.Dec.{leb}
+use lib.IntN.{ℤ, pos, negsuc}
+use lib.ListN.{length, getD}
+use lib.Seq.{sets}
+use Rattle.rules_number.specs.Over.{listed}
+use Rattle.rules_curve.specs.declared.RawStep.{RawStep}
+use Rattle.rules_curve.specs.declared.RawCurve.{RawCurve}
+use Rattle.rules_curve.specs.declared.Curve.{Curve}
+use Rattle.rules_cost.specs.Costs.{costRefusal, costCurve}
+use Rattle.rules_cost.specs.declared.Point.{Point}
+use Rattle.rules_cost.specs.declared.Costs.{Costs}
+
+-- the number at an index; past the end it is 0
+abbrev pub cellAt : List ℤ → ℕ → ℤ
+cellAt l i = getD l i (pos 0)
+
+-- ---- a bid
+-- step k of a list that has end and price of each in turn
+abbrev pub rawStepAt : List ℤ → ℕ → RawStep
+rawStepAt l k = record { end = cellAt l (2 * k); price = cellAt l (2 * k + 1) }
+
+-- a curve has room for ten
+abbrev pub stepsIn : List ℤ → List RawStep
+stepsIn l = listed (rawStepAt l) 10
+
+-- the bid with that start, count and list
+abbrev pub rawBid : ℤ → ℕ → List ℤ → RawCurve
+rawBid start count steps = record { start = start; count = count; steps = stepsIn steps }
+
+-- ---- costs
+-- point k of a list that has quantity and average heat rate of each in turn
+abbrev pub rawPointAt : List ℤ → ℕ → Point
+rawPointAt l k = record { mw = cellAt l (2 * k); heat = cellAt l (2 * k + 1) }
+
+-- costs have room for eleven
+abbrev pub pointsIn : List ℤ → List Point
+pointsIn l = listed (rawPointAt l) 11
+
+-- the costs with that count, list of points and list of charges
+unfoldable pub costsIn : ℕ → List ℤ → List ℤ → Costs
+costsIn count points charges = record {
+  count = count;
+  points = pointsIn points;
+  gas = cellAt charges 0;
+  rate = cellAt charges 1;
+  allowance = cellAt charges 2;
+  om = cellAt charges 3;
+  msc = cellAt charges 4;
+  soc = cellAt charges 5;
+  fee = cellAt charges 6;
+}
+
+-- ---- a default curve
+-- a curve as two lists: the number of steps, the start and the ends; and the prices
+abbrev pub edgesOf : Curve → List ℕ
+edgesOf c = c .count ∷ c .start ∷ map (λ s. s .end) (c .steps)
+
+abbrev pub pricesOf : Curve → List ℤ
+pricesOf c = map (λ s. s .price) (c .steps)
+
+-- whether two lent slices have room for them
+abbrev pub hasRoom : List ℕ → List ℤ → Bool
+hasRoom edges prices = leb 12 (length edges) && leb 10 (length prices)
+
+-- the answer: the number of the refusal, 0 where there is none, or -1 where the room is too small
+unfoldable pub defaultAnswer : List ℕ → List ℤ → Costs → ℤ
+defaultAnswer edges prices c = cond (hasRoom edges prices) (pos (costRefusal c)) (negsuc 0)
+
+-- a slice is written only where the answer is 0
+abbrev pub ifWritten : {A : Type 0} → ℤ → List A → List A → List A
+ifWritten (pos zero) written before = written
+ifWritten (pos (suc n)) written before = before
+ifWritten (negsuc n) written before = before
+
+-- the two slices afterwards
+unfoldable pub edgesAfter : List ℕ → List ℤ → Costs → List ℕ
+edgesAfter edges prices c = ifWritten (defaultAnswer edges prices c) (sets edges 0 (edgesOf (costCurve c))) edges
+
+unfoldable pub pricesAfter : List ℕ → List ℤ → Costs → List ℤ
+pricesAfter edges prices c = ifWritten (defaultAnswer edges prices c) (sets prices 0 (pricesOf (costCurve c))) prices

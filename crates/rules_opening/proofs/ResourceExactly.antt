@@ -1,0 +1,128 @@
+-- A resource, exactly: the number is that of the first of bid, costs or pack, 11 that is not met, and 0 exactly when all are met. Assumes nothing.
+use mathlib.Core.Bool.{true}
+use mathlib.Core.List.{List, [], _∷_, _++_, map}
+use mathlib.Core.Logic.{_↔_}
+use mathlib.Core.Path.{_≡_, refl, ap, _∙_}
+use Prim.Native.Nat.{ℕ, zero, suc, _-_, _≤_, _<_}
+use native.Mathlib.Nat.{le-refl}
+use native.Mathlib.Omega.{arith}
+use lib.Dec.{leb}
+use lib.IntN.{ℤ, pos, negsuc}
+use lib.ListN.{length, getD, take}
+use lib.Signed.{_≤ℤ_}
+use Rattle.rules_number.specs.Order.{natOf}
+use Rattle.rules_number.specs.Over.{listed}
+use Rattle.rules_number.proofs.OverLaws.{listed-length, listed-at}
+use Rattle.rules_curve.specs.Demands.{First, Met}
+use Rattle.rules_curve.specs.Conditions.{noStep, edge, Counted, Edged, bidDemands}
+use Rattle.rules_curve.specs.Curves.{stepsOf, stepOf, endOf, curveOf, rawSteps, blankStep, bidRefusal}
+use Rattle.rules_curve.specs.declared.RawStep.{RawStep}
+use Rattle.rules_curve.specs.declared.RawCurve.{RawCurve}
+use Rattle.rules_curve.proofs.CheckLaws.{with-used}
+use Rattle.rules_number.proofs.ExactLaws.{leZ-exactly, and-exactly, iff-then}
+use Rattle.rules_curve.proofs.FirstLaws.{exactly, accepted-exactly, first-then, first-more}
+use Rattle.rules_curve.proofs.Exactly.{bid-first, default-first}
+use Rattle.rules_cost.specs.Conditions.{m}
+use Rattle.rules_cost.specs.Costs.{mwAt, stepCount, costStep, costCurve}
+use Rattle.rules_cost.specs.declared.Costs.{Costs}
+use Rattle.rules_cost.proofs.Exactly.{cost-first}
+use Rattle.rules_opening.specs.ResourceConditions.{sourceDemands, defaultStart, defaultEnd, Inside, resourceDemands, Full}
+use Rattle.rules_opening.specs.Resources.{defaultBy, liesInside, resourceRefusal, sourceRefusal}
+use Rattle.rules_opening.specs.declared.Source.{Source}
+use Rattle.rules_opening.specs.declared.Source.the-variants as source
+use Rattle.rules_opening.specs.declared.Resource.{Resource}
+use Rattle.rules_opening.proofs.ResourceLaws.{end-last}
+
+-- natural numbers of integers that are not negative
+nat-exactly : (a b : ℤ) → pos 0 ≤ℤ a → pos 0 ≤ℤ b → (leb (natOf a) (natOf b) ≡ true) ↔ (a ≤ℤ b)
+nat-exactly (pos a) (pos b) h k = leZ-exactly (pos a) (pos b)
+nat-exactly (pos a) (negsuc b) h k = absurd (k .le)
+nat-exactly (negsuc a) b h k = absurd (h .le)
+
+-- ---- where a curve that was read starts and ends
+edgeIn : ℤ → List RawStep → ℕ → ℤ
+edgeIn p l zero = p
+edgeIn p l (suc i) = getD l i noStep .end
+
+end-in : (p : ℤ) (n : ℕ) (l : List RawStep) → n ≤ length l → endOf (natOf p) (map stepOf (take n l)) ≡ natOf (edgeIn p l n)
+unfolding edgeIn
+end-in p zero l h = refl
+end-in p (suc n) [] h = absurd (omega arith)
+end-in p (suc zero) (s ∷ l) h = refl
+end-in p (suc (suc n)) (s ∷ l) h = end-in (s .end) (suc n) l (omega arith)
+
+edge-in : (c : RawCurve) (i : ℕ) → edgeIn (c .start) (c .steps) i ≡ edge c i
+unfolding edgeIn
+edge-in c zero = refl
+edge-in c (suc i) = refl
+
+raw-start : (c : RawCurve) → curveOf c .start ≡ natOf (edge c 0)
+unfolding curveOf
+raw-start c = refl
+
+raw-end : (c : RawCurve) → c .count ≤ length (c .steps) → endOf (curveOf c .start) (stepsOf (curveOf c)) ≡ natOf (edge c (c .count))
+unfolding curveOf
+raw-end c h =
+    rw (with-used (natOf (c .start)) (map stepOf (rawSteps c))) (end-in (c .start) (c .count) (c .steps) h ∙ ap natOf (edge-in c (c .count)))
+
+-- ---- where a curve from costs ends
+cost-end : (c : Costs) → 2 ≤ c .count → endOf (costCurve c .start) (stepsOf (costCurve c)) ≡ natOf (m c (c .count - 1))
+unfolding costCurve
+cost-end c h = rw (with-used (natOf (mwAt c 0)) (listed (costStep c) (stepCount c))) (go (c .count - 1) (omega arith))
+  where
+    go : (n : ℕ) → 0 < n → endOf (natOf (mwAt c 0)) (listed (costStep c) n) ≡ natOf (m c n)
+    go zero h = absurd (omega arith)
+    go (suc n) h =
+        end-last (natOf (mwAt c 0)) n (listed (costStep c) (suc n)) (listed-length (costStep c) (suc n))
+        ∙ ap (λ s. s .end) (listed-at (costStep c) blankStep (suc n) n (le-refl (suc n)))
+
+-- ---- 11, where the bid and the costs or the pack are met
+module _ (x : Resource) (full : Full x) (count : Counted (x .bid)) (edges : Edged (x .bid)) where
+  bid-room : x .bid .count ≤ length (x .bid .steps)
+  bid-room = omega (arith, count .at-most, full .bid)
+
+  from-to : (s : Source) → Met (sourceDemands s x)
+      → (defaultBy s x .start ≡ natOf (defaultStart s x)) × (endOf (defaultBy s x .start) (stepsOf (defaultBy s x)) ≡ natOf (defaultEnd s x))
+      × (pos 0 ≤ℤ defaultStart s x) × (pos 0 ≤ℤ defaultEnd s x)
+  unfolding curveOf costCurve
+  from-to source.Costs met =
+      let few = met .0 .at-least in
+      (refl, cost-end (x .costs) few, met .1 .0 .within 0 (omega arith) .0, met .1 .0 .within (x .costs .count - 1) (omega arith) .0)
+  from-to source.Pack met =
+      let few = met .0 .at-most in
+      (refl, raw-end (x .pack) (omega (arith, full .pack)), met .1 .0 .within 0 (omega arith) .0, met .1 .0 .within (x .pack .count) (le-refl (x .pack .count)) .0)
+
+  inside-exactly : (s : Source) → Met (sourceDemands s x) → (liesInside (curveOf (x .bid)) (defaultBy s x) ≡ true) ↔ Inside s x
+  unfolding liesInside
+  inside-exactly s met =
+      let d = from-to s met in
+      rw (raw-end (x .bid) bid-room, raw-start (x .bid), d .1, d .0)
+      (iff-then (and-exactly _ _ (nat-exactly (defaultStart s x) (edge (x .bid) 0) (d .2) (edges .within 0 (omega arith) .0))
+      (nat-exactly (edge (x .bid) (x .bid .count)) (defaultEnd s x) (edges .within (x .bid .count) (le-refl (x .bid .count)) .0) (d .3)))
+      (λ h. record { starts = h .0; ends = h .1 }) (λ h. (h .starts, h .ends)))
+
+source-first : (s : Source) (x : Resource) → Full x → First (sourceRefusal s x) (sourceDemands s x)
+source-first source.Costs x full = cost-first (x .costs)
+source-first source.Pack x full = default-first (x .pack) (full .pack)
+
+-- ---- the theorems
+module _ (month : ℕ) (x : Resource) (full : Full x) where
+  pub resource-first : First (resourceRefusal month x) (resourceDemands month x)
+  unfolding resourceRefusal
+  resource-first =
+      first-more (bidDemands month (x .bid) ++ sourceDemands (x .source) x) _ (liesInside (curveOf (x .bid)) (defaultBy (x .source) x)) 10
+      (first-then (bidDemands month (x .bid)) (sourceDemands (x .source) x) (bidRefusal month (x .bid)) (sourceRefusal (x .source) x) (bid-first (x .bid) (full .bid) month)
+      (λ met. source-first (x .source) x full))
+      (λ met. inside-exactly x full (met .0) (met .1 .0) (x .source) (met .1 .1 .1))
+
+  -- a resource is refused with n exactly when n is the number of the first demand that it does not meet
+  pub resource-exactly : (n : ℕ) → (resourceRefusal month x ≡ n) ↔ First n (resourceDemands month x)
+  resource-exactly n = exactly (resourceDemands month x) (resourceRefusal month x) resource-first n
+
+  -- and is taken exactly when it meets all
+  pub resource-accepted : (resourceRefusal month x ≡ 0) ↔ Met (resourceDemands month x)
+  resource-accepted = accepted-exactly (resourceDemands month x) (resourceRefusal month x) resource-first
+
+  -- its costs or its pack alone
+  pub source-exactly : (n : ℕ) → (sourceRefusal (x .source) x ≡ n) ↔ First n (sourceDemands (x .source) x)
+  source-exactly n = exactly (sourceDemands (x .source) x) (sourceRefusal (x .source) x) (source-first (x .source) x full) n

@@ -1,0 +1,2 @@
+-- Definitions, in the paper's order. What they mean stands in proofs/.
+pub mod Pages

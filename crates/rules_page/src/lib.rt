@@ -1,0 +1,1 @@
+// What an accepted interval prints (paper 01, Text): its three tables. No code.

@@ -1,0 +1,4 @@
+-- Definitions, in the paper's order. What they mean stands in proofs/.
+pub mod Parts
+pub mod Texts
+pub mod Faults

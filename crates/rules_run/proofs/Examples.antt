@@ -1,0 +1,95 @@
+-- Whole runs, by computation on the definitions (paper 01, Text). Assumes nothing.
+use Prim.Native.Nat.{ℕ}
+use mathlib.Core.Path.{_≡_, refl, ap, _∙_}
+use mathlib.Core.List.{List, [], _++_, append-nil}
+use native.Mathlib.Omega.{arith}
+use lib.ListN.{length}
+use Rattle.rules_number.specs.Order.{inRange}
+use Rattle.rules_number.specs.Over.{sumTo, allTo, highestTo, listed, those, sumOver, padded, upTo}
+use Rattle.rules_curve.specs.Refusals.{eachTo}
+use Rattle.rules_curve.specs.Curves.{priceAt, chain, curveRefusal, curveOf}
+use Rattle.rules_mitigation.specs.Mitigation.{segmentsN, joined, joinedAfter, mitigated}
+use Rattle.rules_cost.specs.Costs.{width, unlimited, incrementalRate, fuel, greenhouse, feePart, stepCost, withAdder, rateAt, largestRate, stepPrice, raisedPrice, costCurve, mwSuits, mwGood, heatGood, chargesInRange, pricesInRange, ratesGood, costRefusal}
+use Rattle.rules_interval.specs.Intervals.{allWithin, factorsGood, outputsGood, intervalRefusal}
+use Rattle.rules_opening.specs.Resources.{liesInside, resourceRefusal, rowOf}
+use Rattle.rules_hour.specs.Hours.{freshStanding, blankHour, nextStanding, callRefusal, standingAfter, hourRefusal, hourAfter}
+use Rattle.rules_opening.specs.Openings.{sellersGood, ownersGood, openingRefusal, marketOf}
+use Rattle.rules_hour.specs.Opened.{freshHour, openedHour}
+use Rattle.rules_hour.specs.Hours.{Hour}
+use Rattle.rules_opening.proofs.CaseT.{openingT, intervalT}
+use Rattle.rules_text.specs.Numbers.{bytes, lines, number, magnitude, row}
+use Rattle.rules_text.specs.Tables.{found, headed, due, single, run, rows, counted, grouped, pairs, each}
+use Rattle.rules_text.specs.Offsets.{kept}
+use Rattle.rules_text.specs.Printing.{digits, decimal, lineText, refusalText}
+use Rattle.rules_parts.specs.Parts.{resourcesOf, openingOf, readOpening}
+use Rattle.rules_parts.proofs.Examples.{opening-read, interval-text, reads-interval}
+use Rattle.rules_page.proofs.Examples.{case-T as page-T}
+use Rattle.rules_run.specs.Run.{pageOf, hourText, partsText, output}
+use Rattle.rules_run.proofs.RunLaws.{accepted-text, parts-accepted, none-text}
+
+-- ---- Case T
+pub text-T : List ℕ
+text-T = bytes "month\n25\nportfolio seller\n0 1\nresource portfolio start\n0 0 10000\nresource end price\n0 15000 300000\n0 30000 900000\nresource mw heat\n0 10000 10000\n0 20000 9000\n0 30000 9500\nresource gas rate allowance om msc soc fee\n0 40000 0 0 20000 1000 3000 50\nconstraint shadow\n0 500000\nresource lmp dispatch available floor\n0 600000 20000 30000 0\nresource constraint factor\n0 0 -500000\nparameter\n100\n"
+
+opens-T : readOpening 0 (lines text-T) ≡ found opening-read 15 (lines (bytes interval-text))
+unfolding text-T interval-text opening-read readOpening openingOf resourcesOf headed due single counted rows run grouped pairs each row number magnitude kept padded
+opens-T = refl
+
+accepts-opening : openingRefusal opening-read ≡ 0
+unfolding opening-read
+    inRange sumTo allTo highestTo listed those sumOver padded upTo eachTo priceAt chain curveRefusal curveOf
+    width unlimited incrementalRate fuel greenhouse feePart stepCost withAdder rateAt largestRate stepPrice raisedPrice costCurve
+    mwSuits mwGood heatGood chargesInRange pricesInRange ratesGood costRefusal
+    sellersGood ownersGood liesInside resourceRefusal openingRefusal
+accepts-opening = refl
+
+same-hour : openedHour opening-read ≡ openedHour openingT
+unfolding opening-read
+    inRange sumTo allTo highestTo listed those sumOver padded upTo eachTo priceAt chain curveRefusal curveOf
+    width unlimited incrementalRate fuel greenhouse feePart stepCost withAdder rateAt largestRate stepPrice raisedPrice costCurve
+    mwSuits mwGood heatGood chargesInRange pricesInRange ratesGood costRefusal
+    sellersGood ownersGood liesInside resourceRefusal openingRefusal rowOf marketOf freshHour openedHour
+same-hour = refl
+
+accepts-interval : hourRefusal (openedHour openingT) intervalT ≡ 0
+unfolding inRange sumTo allTo highestTo listed those sumOver padded upTo eachTo priceAt chain curveRefusal curveOf segmentsN joined joinedAfter mitigated
+    width unlimited incrementalRate fuel greenhouse feePart stepCost withAdder rateAt largestRate stepPrice raisedPrice costCurve
+    mwSuits mwGood heatGood chargesInRange pricesInRange ratesGood costRefusal
+    allWithin factorsGood outputsGood intervalRefusal
+    freshStanding blankHour nextStanding callRefusal standingAfter hourAfter
+    sellersGood ownersGood liesInside resourceRefusal openingRefusal rowOf marketOf freshHour openedHour
+accepts-interval = refl
+
+some-lines : length (lines (bytes interval-text)) ≡ 8
+unfolding interval-text
+some-lines = refl
+
+-- "It prints, whole"
+pub case-T : output text-T ≡ bytes "interval constraint verdict demand left\n1 0 1 10000000000 0\ninterval constraint portfolio withheld\n1 0 0 15000000000\ninterval resource end price\n1 0 15000 300000\n1 0 20000 378402\n1 0 30000 488402\n"
+unfolding output text-T
+case-T =
+    parts-accepted (lines text-T) opening-read 15 (lines (bytes interval-text)) opens-T accepts-opening
+    ∙ ap (λ (h : Hour). hourText h 15 (lines (bytes interval-text))) same-hour
+    ∙ accepted-text 4 1 (openedHour openingT) 15 (lines (bytes interval-text)) (omega (arith, some-lines)) intervalT 23 [] reads-interval accepts-interval
+    ∙ ap (λ (t : List ℕ). pageOf 1 (openedHour openingT) intervalT ++ t) (none-text 4 2 (hourAfter (openedHour openingT) intervalT) 23)
+    ∙ append-nil (pageOf 1 (openedHour openingT) intervalT) ∙ page-T
+
+-- ---- small broken texts
+pub empty : output [] ≡ bytes "refusal line\n17 1\n"
+unfolding output partsText readOpening headed digits decimal lineText refusalText
+empty = refl
+
+-- a names line that isn't closed
+pub unclosed : output (bytes "month") ≡ bytes "refusal line\n17 1\n"
+unfolding output partsText readOpening headed digits decimal lineText refusalText
+unclosed = refl
+
+-- the text ends early: the line after the last
+pub ends-early : output (bytes "month\n25\n") ≡ bytes "refusal line\n17 3\n"
+unfolding output partsText readOpening headed due single row number magnitude digits decimal lineText refusalText
+ends-early = refl
+
+-- each part's text before its values: month 0 is refused only once the part is read
+pub text-first : output (bytes "month\n0\nportfolio seller\n") ≡ bytes "refusal line\n17 4\n"
+unfolding output partsText readOpening headed due single counted rows run row number magnitude digits decimal lineText refusalText
+text-first = refl

@@ -1,0 +1,70 @@
+-- Paper 01, Text: the whole run, from the bytes of a text to the bytes that are printed.
+use Prim.Native.Nat.{ℕ, zero, suc}
+use mathlib.Core.List.{List, [], _∷_, _++_}
+use mathlib.Core.Bool.{cond}
+use lib.Dec.{leb, ltb}
+use lib.ListN.{length}
+use lib.Seq.{sets}
+use Rattle.rules_interval.specs.declared.Interval.{Interval}
+use Rattle.rules_opening.specs.Openings.{openingRefusal}
+use Rattle.rules_hour.specs.Opened.{openedHour}
+use Rattle.rules_hour.specs.Hours.{hourRefusal, hourAfter, hourVerdicts}
+use Rattle.rules_hour.specs.Hours.{Hour}
+use Rattle.rules_path.specs.declared.Verdict.{Verdict}
+use Rattle.rules_text.specs.Numbers.{Line, lines}
+use Rattle.rules_text.specs.Tables.{Reading, faulty, found}
+use Rattle.rules_text.specs.Printing.{refusalText}
+use Rattle.rules_parts.specs.Parts.{readOpening, readInterval}
+use Rattle.rules_page.specs.Pages.{pageText}
+use Rattle.rules_run.specs.declared.Ran.{Ran}
+use Rattle.rules_run.specs.declared.Ran.the-variants.{Printed, TooSmall}
+
+-- "each part's text before its values": a line that is not of the form is refusal 17
+abbrev pub part : {A : Type 0} → Reading A → (A → ℕ → List Line → List ℕ) → List ℕ
+part (faulty line) values = refusalText 17 line
+part (found a n ls) values = values a n ls
+
+-- "else the part's last", which is line n; and where nothing is refused, what is printed then
+abbrev pub answer : ℕ → ℕ → List ℕ → List ℕ
+answer n zero printed = printed
+answer n (suc number) printed = refusalText (suc number) n
+
+-- the page of interval i, with m constraints, that leaves this hour
+abbrev pub pageLeaving : ℕ → Hour → ℕ → List Verdict → List ℕ
+pageLeaving i h m verdicts = pageText i (h .market .resources) (h .rows) (h .standing .floors) m verdicts
+
+-- the page of interval i on an hour
+abbrev pub pageOf : ℕ → Hour → Interval → List ℕ
+pageOf i h v = pageLeaving i (hourAfter h v) (v .constraints) (hourVerdicts h v)
+
+-- interval i and those after it, "from none on", each printed before the next is read; at most f of them
+unfoldable pub intervals : ℕ → ℕ → Hour → ℕ → List Line → List ℕ
+intervals zero i h n ls = []
+intervals (suc f) i h n [] = []
+intervals (suc f) i h n (l ∷ ls) =
+    part (readInterval n (l ∷ ls)) (λ v m rest. answer m (hourRefusal h v) (pageOf i h v ++ intervals f (suc i) (hourAfter h v) m rest))
+
+-- the intervals of an opened hour: it accepts four, so that a fifth part is refused and there is no sixth
+abbrev pub hourText : Hour → ℕ → List Line → List ℕ
+hourText h n ls = intervals 5 1 h n ls
+
+-- the parts of a text: the opening, and then its intervals
+unfoldable pub partsText : List Line → List ℕ
+partsText ls = part (readOpening 0 ls) (λ o n rest. answer n (openingRefusal o) (hourText (openedHour o) n rest))
+
+-- what the program prints for a text: "18 is tested first"
+unfoldable pub output : List ℕ → List ℕ
+output text = cond (ltb 65536 (length text)) (refusalText 18 1) (partsText (lines text))
+
+-- ---- a run into a lent page
+-- room for four pages and the lines of a refusal
+abbrev pub runRoom : ℕ
+runRoom = 655424
+
+-- the page afterwards: nothing is changed where it has less room
+unfoldable pub ranWithin : List ℕ → List ℕ → List ℕ
+ranWithin out printed = cond (leb runRoom (length out)) (sets out 0 printed) out
+
+-- how many bytes were printed, or that the page has less room
+unfoldable pub ranTo : List ℕ → List ℕ → Ran
+ranTo out printed = cond (leb runRoom (length out)) (Printed (length printed)) TooSmall

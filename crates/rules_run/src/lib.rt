@@ -1,0 +1,7 @@
+// The whole run: the bytes of a text in, the bytes that are printed out (paper 01, Text; 17, 18). No code.
+
+// How many bytes were printed, or that the lent page has less room than ROOM.
+pub enum Ran {
+    Printed(usize),
+    TooSmall,
+}

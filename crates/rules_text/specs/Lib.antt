@@ -1,0 +1,6 @@
+-- Definitions, in the paper's order. What they mean stands in proofs/.
+pub mod Numbers
+pub mod Tables
+pub mod Offsets
+pub mod Printing
+pub mod Spelled

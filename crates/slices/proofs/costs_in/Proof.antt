@@ -1,0 +1,69 @@
+-- `slices::costs_in` meets its contract. Assumes nothing.
+use Prim.Native.Nat.{ℕ}
+use mathlib.Core.Path.{_≡_, _∙_}
+use mathlib.Core.List.{List}
+use borrow.Author.Needs.{needs}
+use lib.IntN.{ℤ}
+use Rattle.rules_number.proofs.Kit.{came}
+use Rattle.rules_cost.specs.declared.Point.{Point}
+use Rattle.rules_cost.specs.declared.Costs.{Costs}
+use Rattle.rules_library.specs.Slices.{costsIn}
+use Rattle.slices.proofs.costs_in.Statement.{statement}
+use Rattle.slices.proofs.costs_in.Tie as tie
+
+points-in-requires : tie.Need-points-in-requires
+points-in-requires c κs = search needs
+
+cell-at-requires : tie.Need-cell-at-requires
+cell-at-requires c κs = search needs
+
+cell-at-requires-2 : tie.Need-cell-at-requires-2
+cell-at-requires-2 c κs = search needs
+
+cell-at-requires-3 : tie.Need-cell-at-requires-3
+cell-at-requires-3 c κs = search needs
+
+cell-at-requires-4 : tie.Need-cell-at-requires-4
+cell-at-requires-4 c κs = search needs
+
+cell-at-requires-5 : tie.Need-cell-at-requires-5
+cell-at-requires-5 c κs = search needs
+
+cell-at-requires-6 : tie.Need-cell-at-requires-6
+cell-at-requires-6 c κs = search needs
+
+cell-at-requires-7 : tie.Need-cell-at-requires-7
+cell-at-requires-7 c κs = search needs
+
+by-cells : {n : ℕ} {l l' : List Point} {g g' r r' a a' o o' m m' s s' f f' : ℤ} → l ≡ l' → g ≡ g' → r ≡ r' → a ≡ a' → o ≡ o' → m ≡ m' → s ≡ s' → f ≡ f'
+    → _≡_ {A = Costs} (record { count = n; points = l; gas = g; rate = r; allowance = a; om = o; msc = m; soc = s; fee = f })
+    (record { count = n; points = l'; gas = g'; rate = r'; allowance = a'; om = o'; msc = m'; soc = s'; fee = f' })
+by-cells p q t u v w x y = cc
+
+returns : tie.Need-returns
+unfolding costsIn
+returns c =
+    let f = c .before in
+    let e = f .before in
+    let d = e .before in
+    let b = d .before in
+    let a = b .before in
+    let z = a .before in
+    by-cells (z .before .points-in .ensures) (came (z .cell-at .result) (z .cell-at .ok) ∙ z .cell-at .ensures) (came (a .cell-at2 .result) (a .cell-at2 .ok) ∙ a .cell-at2 .ensures)
+    (came (b .cell-at3 .result) (b .cell-at3 .ok) ∙ b .cell-at3 .ensures) (came (d .cell-at4 .result) (d .cell-at4 .ok) ∙ d .cell-at4 .ensures)
+    (came (e .cell-at5 .result) (e .cell-at5 .ok) ∙ e .cell-at5 .ensures) (came (f .cell-at6 .result) (f .cell-at6 .ok) ∙ f .cell-at6 .ensures)
+    (came (c .cell-at7 .result) (c .cell-at7 .ok) ∙ c .cell-at7 .ensures)
+
+pub costs-in-spec : {M : Type 1} → statement M
+costs-in-spec =
+    tie.close
+    (tie.spec
+    points-in-requires
+    cell-at-requires
+    cell-at-requires-2
+    cell-at-requires-3
+    cell-at-requires-4
+    cell-at-requires-5
+    cell-at-requires-6
+    cell-at-requires-7
+    returns)

@@ -1,0 +1,89 @@
+-- `slices::steps_in` meets its contract. Assumes nothing.
+use Prim.Native.Nat.{_-_, _≤_}
+use mathlib.Core.Path.{_∙_, _≡_, refl}
+use native.Mathlib.Omega.{arith}
+use borrow.Author.Needs.{needs}
+use lib.IntN.{ℤ, pos}
+use Rattle.rules_number.proofs.Kit.{came}
+use Rattle.rules_number.specs.Over.{listed, padded}
+use Rattle.rules_curve.specs.declared.RawStep.{RawStep}
+use Rattle.rules_library.specs.Slices.{rawStepAt}
+use Rattle.rules_library.proofs.SliceLaws.{filled-next, filled}
+use Rattle.slices.proofs.steps_in.Statement.{statement}
+use Rattle.slices.proofs.steps_in.Tie as tie
+
+abbrev blankRaw : RawStep
+blankRaw = record { end = pos 0; price = pos 0 }
+
+abbrev Inv-loop : tie.InvT-loop
+Inv-loop s steps₀ i₀ steps i = (i ≤ 10) × (steps ≡ padded 10 blankRaw (listed (rawStepAt s) i))
+
+abbrev μ-loop : tie.MeasureT-loop
+μ-loop s steps₀ i₀ steps i = 10 - i
+
+loop-holds : tie.Need-loop-holds Inv-loop μ-loop
+unfolding padded listed
+loop-holds c = (omega arith, refl)
+
+mul-cell-at : tie.Need-mul-cell-at Inv-loop μ-loop
+mul-cell-at c = search needs
+
+cell-at-requires : tie.Need-cell-at-requires Inv-loop μ-loop
+cell-at-requires c κs = search needs
+
+mul-cell-at-2 : tie.Need-mul-cell-at-2 Inv-loop μ-loop
+mul-cell-at-2 c = search needs
+
+add-cell-at : tie.Need-add-cell-at Inv-loop μ-loop
+add-cell-at c = search needs
+
+cell-at-requires-2 : tie.Need-cell-at-requires-2 Inv-loop μ-loop
+cell-at-requires-2 c κs = search needs
+
+mul-steps : tie.Need-mul-steps Inv-loop μ-loop
+mul-steps c = search needs
+
+array-set-from-steps : tie.Need-array-set-from-steps Inv-loop μ-loop
+array-set-from-steps c = search needs
+
+add-i : tie.Need-add-i Inv-loop μ-loop
+add-i c = search needs
+
+loop-less : tie.Need-loop-less Inv-loop μ-loop
+loop-less c = search needs
+
+by-cells : {a a' b b' : ℤ} → a ≡ a' → b ≡ b' → _≡_ {A = RawStep} (record { end = a; price = b }) (record { end = a'; price = b' })
+by-cells e f = cc
+
+loop-again : tie.Need-loop-again Inv-loop μ-loop
+loop-again c =
+    let f = c .before in
+    let l = f .before .before in (
+      omega arith,
+      filled-next 10 blankRaw (rawStepAt (l .before .args .s .now)) (l .loop .steps) (l .loop .i) _ (omega arith) (l .loop .inv .1)
+          (by-cells (came (f .cell-at .result) (f .cell-at .ok) ∙ f .cell-at .ensures) (came (c .cell-at2 .result) (c .cell-at2 .ok) ∙ c .cell-at2 .ensures)),
+    )
+
+returns : tie.Need-returns Inv-loop μ-loop
+returns c =
+    let l = c .before in
+    filled 10 blankRaw (rawStepAt (l .before .args .s .now)) (l .loop .steps) (l .loop .i) (omega arith) (omega arith) (l .loop .inv .1)
+
+pub steps-in-spec : {M : Type 1} → statement M
+steps-in-spec =
+    tie.close
+    (tie.spec
+    Inv-loop
+    μ-loop
+    loop-holds
+    mul-cell-at
+    cell-at-requires
+    mul-cell-at-2
+    add-cell-at
+    cell-at-requires-2
+    mul-steps
+    array-set-from-steps
+    add-i
+    loop-less
+    loop-again
+    returns)

@@ -1,0 +1,61 @@
+// Steps and costs read from lent slices of numbers. The contracts cite the definitions of rules_library.
+use rules_cost::Costs;
+use rules_cost::Point;
+use rules_curve::Curve;
+use rules_curve::RawStep;
+ghost use mathlib.Core.Path.{_≡_};
+ghost use Rattle.rules_library.specs.Slices.{cellAt, stepsIn, pointsIn, costsIn};
+
+// The number at an index, or 0 past the end.
+fn cell_at(s: &[i64], i: usize) -> i64
+    ensures { λ r. ⌜ r ≡ cellAt (now (s .entry)) i ⌝ }
+{
+    if i < s.len() { s[i] } else { 0 }
+}
+
+// Ten steps, from end and price of each in turn.
+pub fn steps_in(s: &[i64]) -> [RawStep; Curve::MAX_STEPS]
+    ensures { λ r. ⌜ r ≡ stepsIn (now (s .entry)) ⌝ }
+{
+    let mut steps = [RawStep { end: 0, price: 0 }; Curve::MAX_STEPS];
+    let mut i: usize = 0;
+    while i < Curve::MAX_STEPS {
+        let end = cell_at(s, 2 * i);
+        let price = cell_at(s, 2 * i + 1);
+        steps[i] = RawStep { end, price };
+        i += 1;
+    }
+    steps
+}
+
+// Eleven points, from quantity and heat rate of each in turn.
+fn points_in(s: &[i64]) -> [Point; Costs::MAX_POINTS]
+    ensures { λ r. ⌜ r ≡ pointsIn (now (s .entry)) ⌝ }
+{
+    let mut points = [Point { mw: 0, heat: 0 }; Costs::MAX_POINTS];
+    let mut i: usize = 0;
+    while i < Costs::MAX_POINTS {
+        let mw = cell_at(s, 2 * i);
+        let heat = cell_at(s, 2 * i + 1);
+        points[i] = Point { mw, heat };
+        i += 1;
+    }
+    points
+}
+
+// Costs, from their points and from gas, rate, allowance, om, msc, soc and fee.
+pub fn costs_in(count: usize, points: &[i64], charges: &[i64]) -> Costs
+    ensures { λ r. ⌜ r ≡ costsIn count (now (points .entry)) (now (charges .entry)) ⌝ }
+{
+    Costs {
+        count,
+        points: points_in(points),
+        gas: cell_at(charges, 0),
+        rate: cell_at(charges, 1),
+        allowance: cell_at(charges, 2),
+        om: cell_at(charges, 3),
+        msc: cell_at(charges, 4),
+        soc: cell_at(charges, 5),
+        fee: cell_at(charges, 6),
+    }
+}

@@ -1,0 +1,108 @@
+// Lines of values at an offset of a lent text (paper 01, Text). The contracts cite the definitions of rules_text.
+use rules_text::Number;
+use rules_text::Row;
+use rules_text::Three;
+use text_numbers::closed_at;
+use text_numbers::closing;
+ghost use mathlib.Core.Path.{_≡_};
+ghost use lib.IntN.{pos};
+ghost use mathlib.Core.Option.{none};
+ghost use Rattle.rules_number.specs.Order.{eqZ};
+ghost use Rattle.rules_text.specs.Offsets.{asRow, rowAt, threeOf, idRowAt};
+
+fn no_row() -> Row
+    ensures { λ r. ⌜ r ≡ asRow 0 none ⌝ }
+{
+    Row {
+        ok: false,
+        v: [0i64; 8],
+        next: 0,
+    }
+}
+
+// The k values of the line at an offset, with one space between; no row where k isn't 1 to 8.
+pub fn row_at(s: &[u8], at: usize, k: usize) -> Row
+    ensures { λ r. ⌜ r ≡ rowAt (now (s .entry)) at k ⌝ }
+{
+    if k < 1 {
+        return no_row();
+    }
+    if 8 < k {
+        return no_row();
+    }
+    let mut v = [0i64; 8];
+    let mut p = at;
+    let mut i = 0;
+    while i < k {
+        let Number::Is(x, n) = closed_at(s, p, closing(k - i - 1)) else {
+            return no_row();
+        };
+        v[i] = x;
+        p = n;
+        i += 1;
+    }
+    Row {
+        ok: true,
+        v,
+        next: p,
+    }
+}
+
+fn no_three() -> Three
+    ensures { λ r. ⌜ r ≡ threeOf (asRow 0 none) ⌝ }
+{
+    Three {
+        ok: false,
+        first: 0,
+        second: 0,
+        third: 0,
+        next: 0,
+    }
+}
+
+// The three values of the line at an offset, with one space between.
+pub fn three_at(s: &[u8], at: usize) -> Three
+    ensures { λ r. ⌜ r ≡ threeOf (rowAt (now (s .entry)) at 3) ⌝ }
+{
+    let Number::Is(first, p) = closed_at(s, at, 32) else {
+        return no_three();
+    };
+    let Number::Is(second, q) = closed_at(s, p, 32) else {
+        return no_three();
+    };
+    let Number::Is(third, next) = closed_at(s, q, 10) else {
+        return no_three();
+    };
+    Three {
+        ok: true,
+        first,
+        second,
+        third,
+        next,
+    }
+}
+
+// Whether a value is the id n.
+pub fn is_id(n: usize, x: i64) -> bool
+    ensures { λ r. ⌜ r ≡ eqZ (pos n) x ⌝ }
+{
+    if x < 0 {
+        return false;
+    }
+    n == x as u64 as usize
+}
+
+// The k values of the line at an offset, where the first of them is the id n; otherwise no row.
+pub fn id_row_at(s: &[u8], at: usize, k: usize, n: usize) -> Row
+    ensures { λ r. ⌜ r ≡ idRowAt n (now (s .entry)) at k ⌝ }
+{
+    let row = row_at(s, at, k);
+    let v = row.v;
+    if !row.ok {
+        return no_row();
+    }
+    if !is_id(n, v[0]) {
+        return no_row();
+    }
+    row
+}

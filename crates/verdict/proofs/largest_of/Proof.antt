@@ -1,0 +1,65 @@
+-- `verdict::largest_of` meets its contract. Assumes nothing.
+use Prim.Native.Nat.{_≤_, _<_, _-_}
+use mathlib.Core.Path.{_≡_, ap, _∙_}
+use mathlib.Core.Logic.{⊎-elim}
+use native.Mathlib.Omega.{arith}
+use borrow.Author.Needs.{needs}
+use Rattle.rules_path.specs.Paths.{largest}
+use Rattle.rules_path.proofs.LargestLaws.{scan-higher, scan-same}
+use Rattle.verdict.proofs.largest_of.Statement.{statement}
+use Rattle.verdict.proofs.largest_of.Tie as tie
+
+abbrev Inv-loop : tie.InvT-loop
+Inv-loop w best₀ i₀ best i = (i ≤ 16) × (best < 16) × (best ≡ largest w i)
+
+abbrev μ-loop : tie.MeasureT-loop
+μ-loop w best₀ i₀ best i = 16 - i
+
+loop-holds : tie.Need-loop-holds Inv-loop μ-loop
+unfolding largest
+loop-holds c = search needs
+
+mul-if1 : tie.Need-mul-if1 Inv-loop μ-loop
+mul-if1 c = omega arith
+
+array-read-if1 : tie.Need-array-read-if1 Inv-loop μ-loop
+array-read-if1 c = omega arith
+
+mul-if1-2 : tie.Need-mul-if1-2 Inv-loop μ-loop
+mul-if1-2 c = omega arith
+
+array-read-if1-2 : tie.Need-array-read-if1-2 Inv-loop μ-loop
+array-read-if1-2 c = omega arith
+
+add-i : tie.Need-add-i Inv-loop μ-loop
+add-i c = omega arith
+
+loop-less : tie.Need-loop-less Inv-loop μ-loop
+loop-less c = omega arith
+
+loop-again : tie.Need-loop-again Inv-loop μ-loop
+loop-again c =
+    let i = c .before .before .loop .i in
+    let e = c .before .before .loop .inv .2 in
+    (omega arith, ⊎-elim (λ w. omega arith) (λ w. omega arith) (c .if1 .came), ⊎-elim (λ w. w .1 ∙ scan-higher _ _ i e (w .0 .taken)) (λ w. w .1 ∙ scan-same _ _ i e (w .0 .left)) (c .if1 .came))
+
+returns : tie.Need-returns Inv-loop μ-loop
+returns c =
+    let e : c .before .loop .i ≡ 16 = omega arith in
+    (c .before .loop .inv .2 ∙ ap (largest _) e, c .before .loop .inv .1)
+
+pub largest-of-spec : {M : Type 1} → statement M
+largest-of-spec =
+    tie.close
+    (tie.spec
+    Inv-loop
+    μ-loop
+    loop-holds
+    mul-if1
+    array-read-if1
+    mul-if1-2
+    array-read-if1-2
+    add-i
+    loop-less
+    loop-again
+    returns)
