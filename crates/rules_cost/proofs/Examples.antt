@@ -41,13 +41,21 @@ rising = costsOf (point 2 5 ∷ point 5 4 ∷ []) 0 0 0 0
 abbrev pub falling : Costs
 falling = costsOf (point 2 10 ∷ point 5 2 ∷ []) 0 0 0 0
 
--- PMax 30000 and a first step that ends at m
-abbrev pub endingAt : ℕ → Costs
-endingAt m = costsOf (point 10000 100 ∷ point m 200 ∷ point 30000 200 ∷ []) 0 0 0 0
+-- a PMax and a first step that ends at m: n / w, up, is 272 for m of 23999 to 24004, and the larger of h and h' is 200
+abbrev pub endingAt : ℕ → ℕ → Costs
+endingAt top m = costsOf (point 10000 100 ∷ point m 200 ∷ point top 200 ∷ []) 0 0 0 0
 
 -- R falls from 10000 to 4995, and the second step is narrow
 abbrev pub narrow : Costs
 narrow = costsOf (point 0 10000 ∷ point 10000 10000 ∷ point 10010 9995 ∷ []) 1000 200000 1000000 1000000
+
+-- R falls from 10000 to 8900, and the second step is a tenth as wide
+abbrev pub lower : Costs
+lower = costsOf (point 0 10000 ∷ point 10000 10000 ∷ point 11000 9900 ∷ []) 30000 53073 250000 1000000
+
+-- R falls from 9000, by the limit, to -3000
+abbrev pub under : Costs
+under = costsOf (point 1000 5000 ∷ point 2000 9000 ∷ point 3000 5000 ∷ []) 20000 53073 250001 0
 
 -- one step of width 3, with these costs
 abbrev pub small : ℕ → ℕ → ℕ → ℕ → Costs
@@ -77,14 +85,34 @@ pub record Worked : Type 0 where
   -- P4: PMax 30000: end 24000 is limited, 24001 isn't
   pub p4-limited : isLimited (pos 30000) (pos 24000) ≡ true
   pub p4-not : isLimited (pos 30000) (pos 24001) ≡ false
-  pub p4-rate-limited : rateAt (endingAt 24000) 0 ≡ pos 200
-  pub p4-rate-not : rateAt (endingAt 24001) 0 ≡ pos 272
+  pub p4-rate-limited : rateAt (endingAt 30000 24000) 0 ≡ pos 200
+  pub p4-rate-not : rateAt (endingAt 30000 24001) 0 ≡ pos 272
+  -- the same where 5 doesn't divide PMax: 4 × 30001 = 120004, 4 × 30004 = 120016 and 4 × 29999 = 119996
+  pub p4-30001-limited : rateAt (endingAt 30001 24000) 0 ≡ pos 200
+  pub p4-30001-not : rateAt (endingAt 30001 24001) 0 ≡ pos 272
+  pub p4-30004-limited : rateAt (endingAt 30004 24003) 0 ≡ pos 200
+  pub p4-30004-not : rateAt (endingAt 30004 24004) 0 ≡ pos 272
+  pub p4-29999-limited : rateAt (endingAt 29999 23999) 0 ≡ pos 200
+  pub p4-29999-not : rateAt (endingAt 29999 24000) 0 ≡ pos 272
+  pub p4-30001-tests : (isLimited (pos 30001) (pos 24000) ≡ true) × (isLimited (pos 30001) (pos 24001) ≡ false)
+  pub p4-30004-tests : (isLimited (pos 30004) (pos 24003) ≡ true) × (isLimited (pos 30004) (pos 24004) ≡ false)
+  pub p4-29999-tests : (isLimited (pos 29999) (pos 23999) ≡ true) × (isLimited (pos 29999) (pos 24000) ≡ false)
   -- a negative R: fuel, greenhouse and fee part each rounded up, then the price
   pub below-zero : stepsOf (costCurve (costsOf (point 10 100 ∷ point 20 1 ∷ []) 1000 200000 1000000 3)) ≡ stepTo 20 (negℤ (pos 21634)) ∷ []
   -- each part is rounded by itself
   pub each-part : stepsOf (costCurve (small 1 1 1 1)) ≡ stepTo 3 (pos 40) ∷ []
   -- fuel from the largest R so far, greenhouse from R, fee part over the step's own width
   pub from-M-and-R : stepsOf (costCurve narrow) ≡ stepTo 10000 (pos 2222000) ∷ stepTo 10010 (pos 12109900) ∷ []
+  -- greenhouse where R is below M. The second step has M 10000 and R 8900: fuel 300000, greenhouse 8900 × 53073 × 250000 / 1,000,000,000, up: 118088
+  -- (from M it would be 132683 and the price 585952), fee part 100000, cost 518088
+  pub lower-rates : (rateAt lower 0 ≡ pos 10000) × (rateAt lower 1 ≡ pos 8900) × (largestRate lower 1 ≡ pos 10000)
+  pub lower-parts : (fuel lower (pos 10000) ≡ pos 300000) × (greenhouse lower (pos 8900) ≡ pos 118088) × (feePart lower 1000 ≡ pos 100000)
+  pub lower-curve : stepsOf (costCurve lower) ≡ stepTo 10000 (pos 486952) ∷ stepTo 11000 (pos 569897) ∷ []
+  -- the second step has M 9000 and R -3000: fuel 180000, greenhouse -39804.909.., up: -39804 (from M it would be 119415), cost 140196; the price is raised
+  pub under-rates : (rateAt under 0 ≡ pos 9000) × (rateAt under 1 ≡ negℤ (pos 3000)) × (largestRate under 1 ≡ pos 9000)
+  pub under-parts : (fuel under (pos 9000) ≡ pos 180000) × (greenhouse under (negℤ (pos 3000)) ≡ negℤ (pos 39804)) × (feePart under 1000 ≡ pos 0)
+  pub under-prices : (stepPrice under 0 ≡ pos 329357) × (stepPrice under 1 ≡ pos 154216)
+  pub under-curve : stepsOf (costCurve under) ≡ stepTo 2000 (pos 329357) ∷ stepTo 3000 (pos 329357) ∷ []
   -- a narrow step's fee exceeds its right neighbour's: the second is raised from 112
   pub second : stepPrice (costsOf (point 0 1 ∷ point 1 1 ∷ point 1000 1 ∷ []) 0 0 0 1000) 1 ≡ pos 112
   pub raised : stepsOf (costCurve (costsOf (point 0 1 ∷ point 1 1 ∷ point 1000 1 ∷ []) 0 0 0 1000)) ≡ stepTo 1 (pos 110000) ∷ stepTo 1000 (pos 110000) ∷ []
@@ -130,9 +158,25 @@ worked = record {
   p4-not = refl;
   p4-rate-limited = refl;
   p4-rate-not = refl;
+  p4-30001-limited = refl;
+  p4-30001-not = refl;
+  p4-30004-limited = refl;
+  p4-30004-not = refl;
+  p4-29999-limited = refl;
+  p4-29999-not = refl;
+  p4-30001-tests = (refl, refl);
+  p4-30004-tests = (refl, refl);
+  p4-29999-tests = (refl, refl);
   below-zero = refl;
   each-part = refl;
   from-M-and-R = refl;
+  lower-rates = (refl, refl, refl);
+  lower-parts = (refl, refl, refl);
+  lower-curve = refl;
+  under-rates = (refl, refl, refl);
+  under-parts = (refl, refl, refl);
+  under-prices = (refl, refl);
+  under-curve = refl;
   second = refl;
   raised = refl;
   one-point = refl;

@@ -5,3 +5,4 @@ pub mod RefusalLaws
 pub mod DefaultCurve
 pub mod Examples
 pub mod Exactly
+pub mod Formula

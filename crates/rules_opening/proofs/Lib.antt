@@ -4,3 +4,4 @@ pub mod CaseT
 pub mod ResourceExactly
 pub mod Exactly
 pub mod FreshHour
+pub mod Worked

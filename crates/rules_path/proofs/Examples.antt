@@ -3,7 +3,7 @@ use mathlib.Core.List.{List, [], _∷_}
 use mathlib.Core.Path.{_≡_, refl}
 use Prim.Native.Nat.{ℕ}
 use lib.IntN.{ℤ, pos, negsuc}
-use lib.ListN.{replicate}
+use lib.ListN.{getD, replicate}
 use Rattle.rules_number.specs.Over.{sumTo, listed}
 use Rattle.rules_path.specs.declared.Finding.the-variants.{Competitive, NonCompetitive}
 use Rattle.rules_path.specs.Paths.{Path, at, demand, supply, share, withholdable, offer, offers, largest, top, total, mask, amountOf, sellers, named, left, isNonCompetitive}
@@ -82,3 +82,30 @@ pub record Counterflow : Type 0 where
 pub counterflow : Counterflow
 unfolding sumTo listed demand supply share withholdable offer offers largest top total mask amountOf sellers named left isNonCompetitive verdictOf
 counterflow = record { below = refl; above = refl }
+
+-- one portfolio's two resources, of e 3 and e 2 and 10 and 7 available, of which 4 of the first can't be withheld
+abbrev pub pair : List ℕ → Path
+pair dispatch = record {
+  shadow = pos 1;
+  resources = 2;
+  factor = λ r. getD (negsuc 2 ∷ negsuc 1 ∷ []) r (pos 0);
+  dispatch = at dispatch;
+  available = at (10 ∷ 7 ∷ []);
+  floor = at (4 ∷ []);
+  portfolio = λ r. 0;
+  portfolios = 1;
+  seller = λ p. 1;
+}
+
+-- "a portfolio can withhold the sum of e × (available - floor) over its resources": 3 × (10 - 4) + 2 × 7 = 32, of a supply of 3 × 10 + 2 × 7 = 44
+pub record TwoResources : Type 0 where
+  pub each : (share (pair []) 0 0 ≡ 18) × (share (pair []) 0 1 ≡ 14)
+  pub sum : withholdable (pair []) 0 ≡ 32
+  pub all : supply (pair []) ≡ 44
+  -- demand 3 × 4 = 12 is left, 3 × 3 + 2 × 2 = 13 isn't
+  pub competitive : verdictOf (pair (4 ∷ [])) ≡ record { finding = Competitive; demand = 12; left = 12; named = 1; withheld = amounts (32 ∷ []) }
+  pub not : verdictOf (pair (3 ∷ 2 ∷ [])) ≡ record { finding = NonCompetitive; demand = 13; left = 12; named = 1; withheld = amounts (32 ∷ []) }
+
+pub two-resources : TwoResources
+unfolding sumTo listed demand supply share withholdable offer offers largest top total mask amountOf sellers named left isNonCompetitive verdictOf
+two-resources = record { each = (refl, refl); sum = refl; all = refl; competitive = refl; not = refl }
