@@ -7,8 +7,10 @@ use borrow.Author.Tests.{leb-true}
 use lib.Dec.{leb}
 use lib.IntN.{pos}
 use lib.ListN.{length, replicate, getD}
+use lib.Signed.{_≤ℤ_, _<ℤ_}
 use Rattle.rules_number.specs.Order.{inRange, natOf}
-use Rattle.rules_number.proofs.OverLaws.{both}
+use Rattle.rules_number.proofs.OverLaws.{both, all-at}
+use Rattle.rules_number.proofs.ExactLaws.{leZ-exactly, ltZ-exactly, and-exactly}
 use Rattle.rules_curve.specs.Refusals.{unless, _then_, eachTo}
 use Rattle.rules_curve.specs.Curves.{bidRefusal, lowestBid, highestBid, lowestDefault, highestDefault}
 use Rattle.rules_curve.specs.Meaning.{Sound}
@@ -16,7 +18,7 @@ use Rattle.rules_curve.proofs.CheckLaws.{then-both, unless-holds, each-at, chec
 use Rattle.rules_mitigation.specs.Meaning.{Inside}
 use Rattle.rules_cost.proofs.DefaultCurve.{cost-sound}
 use Rattle.rules_hour.specs.Hours.{uncut, freshStanding, blankHour, noRow, rowAt, floorIn}
-use Rattle.rules_opening.specs.Openings.{resourceAt, countsGood, membersGood, openingRefusal, blankMarket}
+use Rattle.rules_opening.specs.Openings.{resourceAt, countsGood, isKnown, sellersGood, ownersGood, membersGood, openingRefusal, blankMarket}
 use Rattle.rules_hour.specs.Opened.{freshHour, hourUnless, openedHour}
 use Rattle.rules_hour.specs.Demand3.{submitted, defaultOf}
 use Rattle.rules_opening.specs.declared.Source.{Source}
@@ -46,13 +48,13 @@ module _ (o : Opening) (accepted : openingRefusal o ≡ 0) where
   unfolding openedHour
   opened-hour = rw accepted
 
-  -- 9 and every resource's check let it pass
-  checks : (countsGood o ≡ true) × (eachTo (λ r. resourceRefusal (natOf (o .month)) (resourceAt o r)) (o .resources) ≡ 0)
+  -- 9, 10 and every resource's check let it pass
+  checks : (countsGood o ≡ true) × (membersGood o ≡ true) × (eachTo (λ r. resourceRefusal (natOf (o .month)) (resourceAt o r)) (o .resources) ≡ 0)
   unfolding openingRefusal
   checks =
       let x = then-both (unless (countsGood o) 9 then unless (membersGood o) 10) (eachTo (λ r. resourceRefusal (natOf (o .month)) (resourceAt o r)) (o .resources)) accepted in
       let y = then-both (unless (countsGood o) 9) (unless (membersGood o) 10) (x .0) in
-      (unless-holds (countsGood o) 8 (y .0), x .1)
+      (unless-holds (countsGood o) 8 (y .0), unless-holds (membersGood o) 9 (y .1), x .1)
 
   -- at most 16 portfolios, and one to 64 resources
   pub few : (o .portfolios ≤ 16) × (0 < o .resources) × (o .resources ≤ 64)
@@ -61,6 +63,14 @@ module _ (o : Opening) (accepted : openingRefusal o ≡ 0) where
       let p = both (leb 1 (o .portfolios)) (leb (o .portfolios) 16) (counts .0) in
       let r = both (leb 1 (o .resources)) (leb (o .resources) 64) (counts .1) in
       (leb-true _ _ (p .1), leb-true _ _ (r .0), leb-true _ _ (r .1))
+
+  -- each resource's portfolio is a declared one
+  pub owner-known : (r : ℕ) → r < o .resources → (pos 0 ≤ℤ resourceAt o r .portfolio) × (resourceAt o r .portfolio <ℤ pos (o .portfolios))
+  unfolding ownersGood
+  owner-known r l =
+      let x = resourceAt o r .portfolio in
+      let known = all-at (λ i. isKnown (o .portfolios) (resourceAt o i .portfolio)) (o .resources) (both (sellersGood o) (ownersGood o) (checks .1) .1) r l in
+      and-exactly _ _ (leZ-exactly (pos 0) x) (ltZ-exactly x (pos (o .portfolios))) .0 known
 
   module _ (r : ℕ) (l : r < o .resources) where
     -- bid, costs or pack, and 11 let it pass
@@ -72,7 +82,7 @@ module _ (o : Opening) (accepted : openingRefusal o ≡ 0) where
         let first = bidRefusal (natOf (o .month)) (x .bid) in
         let second = sourceRefusal (x .source) x in
         let third = unless (liesInside (submitted o r) (defaultOf o r)) 11 in
-        let good : resourceRefusal (natOf (o .month)) x ≡ 0 = each-at (λ i. resourceRefusal (natOf (o .month)) (resourceAt o i)) (o .resources) (checks .1) r l in
+        let good : resourceRefusal (natOf (o .month)) x ≡ 0 = each-at (λ i. resourceRefusal (natOf (o .month)) (resourceAt o i)) (o .resources) (checks .2) r l in
         let y = then-both (first then second) third good in
         let z = then-both first second (y .0) in
         (z .0, z .1, unless-holds (liesInside (submitted o r) (defaultOf o r)) 10 (y .1))

@@ -27,26 +27,26 @@ use Rattle.rules_hour.proofs.KeptLaws.{Call, full, faulty, taken, call,
 
 -- ---- the calls that count
 -- what is left of the four, of the calls on an hour of n resources that has accepted a
-counting : ℕ → ℕ → List Interval → List Interval
+unfoldable pub counting : ℕ → ℕ → List Interval → List Interval
 counting n a calls = take (4 - a) (soundCalls n calls)
 
 -- of no call, none counts
-counting-none : (n a : ℕ) → counting n a [] ≡ []
+pub counting-none : (n a : ℕ) → counting n a [] ≡ []
 unfolding counting soundCalls
 counting-none n a = take-nil (4 - a)
 
 module _ (n a : ℕ) (v : Interval) (calls : List Interval) where
   -- a call past the four, and one that 13 to 16 refuse, don't count
-  counting-full : 4 ≤ a → counting n a (v ∷ calls) ≡ counting n a calls
+  pub counting-full : 4 ≤ a → counting n a (v ∷ calls) ≡ counting n a calls
   unfolding counting
   counting-full l = let z : 4 - a ≡ 0 = omega arith in rw z
 
-  counting-faulty : (x : ℕ) → intervalRefusal n v ≡ suc x → counting n a (v ∷ calls) ≡ counting n a calls
+  pub counting-faulty : (x : ℕ) → intervalRefusal n v ≡ suc x → counting n a (v ∷ calls) ≡ counting n a calls
   unfolding counting soundCalls
   counting-faulty x e = rw e
 
   -- any other does
-  counting-taken : a < 4 → intervalRefusal n v ≡ 0 → counting n a (v ∷ calls) ≡ v ∷ counting n (a + 1) calls
+  pub counting-taken : a < 4 → intervalRefusal n v ≡ 0 → counting n a (v ∷ calls) ≡ v ∷ counting n (a + 1) calls
   unfolding counting soundCalls
   counting-taken l e = let z : 4 - a ≡ suc (4 - (a + 1)) = omega arith in rw (e, z)
 
@@ -105,9 +105,9 @@ module _ (o : Opening) (r : ℕ) (l : r < o .resources) (b d : ℤ) where
       here e = ap (λ (x : ℕ). intervalRefusal x v) (sym (resources-kept o h k)) ∙ e
 
       go : Call h v → ((g : Hour) → Kept o g → After o r b d g calls (hourAfterAll g calls)) → After o r b d h (v ∷ calls) (hourAfterAll (hourAfter h v) calls)
-      go (full f e) ih = rw e (skipped h v calls (hourAfterAll h calls) (counting-full (o .resources) (h .standing .accepted) v calls f) (ih h k))
-      go (faulty x f e) ih = rw e (skipped h v calls (hourAfterAll h calls) (counting-faulty (o .resources) (h .standing .accepted) v calls x (here f)) (ih h k))
-      go (taken f c e) ih = rw e (cut h k v calls (hourAfterAll (nextHour h v) calls) f (here c) (ih (nextHour h v) (next-kept o h k v)))
+      go (full f y e) ih = rw e (skipped h v calls (hourAfterAll h calls) (counting-full (o .resources) (h .standing .accepted) v calls f) (ih h k))
+      go (faulty x f y e) ih = rw e (skipped h v calls (hourAfterAll h calls) (counting-faulty (o .resources) (h .standing .accepted) v calls x (here f)) (ih h k))
+      go (taken f c y e) ih = rw e (cut h k v calls (hourAfterAll (nextHour h v) calls) f (here c) (ih (nextHour h v) (next-kept o h k v)))
 
 -- ---- from the hour that opening returned
 module _ (o : Opening) (accepted : openingRefusal o ≡ 0) (calls : List Interval) (r : ℕ) (l : r < o .resources) where

@@ -3,7 +3,7 @@
 use mathlib.Core.Bool.{Bool, true, false}
 use mathlib.Core.List.{List}
 use mathlib.Core.Logic.{_↔_, ⊎-elim}
-use mathlib.Core.Path.{_≡_, sym, ap₂, _∙_}
+use mathlib.Core.Path.{_≡_, sym, ap₂, subst, _∙_}
 use Prim.Native.Nat.{ℕ, zero, suc, _≤_, _<_}
 use native.Mathlib.Omega.{arith}
 use borrow.Author.Tests.{lt-ltb, ltb-true}
@@ -11,9 +11,12 @@ use lib.Dec.{ltb}
 use lib.ListN.{length, length-take}
 use Rattle.rules_number.proofs.OverLaws.{le-or-lt}
 use Rattle.rules_curve.specs.Refusals.{unless, _then_}
+use Rattle.rules_curve.specs.Demands.{First}
+use Rattle.rules_curve.proofs.FirstLaws.{exactly}
 use Rattle.rules_curve.proofs.CheckLaws.{then-both, unless-holds}
 use Rattle.rules_interval.specs.Intervals.{sameCount, constraintsGood, rangesGood, outputsGood, intervalRefusal}
 use Rattle.rules_interval.specs.declared.Interval.{Interval}
+use Rattle.rules_hour.specs.Conditions.{callDemands}
 use Rattle.rules_hour.specs.Hours.{callRefusal, hourRefusal}
 use Rattle.rules_opening.specs.Openings.{openingRefusal}
 use Rattle.rules_hour.specs.Demand3.{soundCalls, acceptedCalls, hourOf}
@@ -21,6 +24,7 @@ use Rattle.rules_opening.specs.declared.Opening.{Opening}
 use Rattle.rules_hour.proofs.AcceptedOpening.{few}
 use Rattle.rules_hour.proofs.KeptLaws.{hour-kept, resources-kept}
 use Rattle.rules_hour.proofs.CallLaws.{hour-count}
+use Rattle.rules_hour.proofs.Answers.{first-here}
 
 -- the list has at most four accepted calls
 pub at-most-four : (o : Opening) (calls : List Interval) → length (acceptedCalls o calls) ≤ 4
@@ -75,3 +79,9 @@ module _ (o : Opening) (calls : List Interval) (accepted : openingRefusal o ≡ 
           (ltb-true _ _ (unless-holds (ltb (length (acceptedCalls o calls)) 4) 11 (b .0)), b .1)),
       (λ h. next-refusal ∙ rw (lt-ltb (length (acceptedCalls o calls)) 4 (h .0), h .1)),
     )
+
+    -- the number is n exactly when n is that of the first of 12 to 16 that applies, and 0 where none does
+    pub next-exactly : (n : ℕ) → (hourRefusal (hourOf o calls) v ≡ n) ↔ First n (callDemands (length (acceptedCalls o calls)) (o .resources) v)
+    next-exactly n =
+        let first = subst (λ (a : ℕ). First (hourRefusal (hourOf o calls) v) (callDemands a (o .resources) v)) count (first-here o accepted (hourOf o calls) (hour-kept o calls accepted) v) in
+        exactly (callDemands (length (acceptedCalls o calls)) (o .resources) v) (hourRefusal (hourOf o calls) v) first n

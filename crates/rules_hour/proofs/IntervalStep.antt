@@ -11,7 +11,7 @@ use Rattle.rules_curve.specs.Curves.{priceAt}
 use Rattle.rules_mitigation.specs.Mitigation.{capped, lowered, usedSteps}
 use Rattle.rules_mitigation.specs.declared.FloorPrice.{FloorPrice}
 use Rattle.rules_mitigation.proofs.MitigationLaws.{capped-again}
-use Rattle.rules_interval.specs.Intervals.{lmpAt, dispatchAt}
+use Rattle.rules_interval.specs.Intervals.{lmpAt, dispatchAt, intervalRefusal}
 use Rattle.rules_interval.specs.declared.Interval.{Interval}
 use Rattle.rules_hour.specs.Cuts.{cutOf}
 use Rattle.rules_hour.specs.Hours.{floorIn, hourRefusal}
@@ -22,6 +22,7 @@ use Rattle.rules_hour.specs.declared.Floor.{Floor}
 use Rattle.rules_hour.specs.Hours.{Hour}
 use Rattle.rules_opening.specs.declared.Opening.{Opening}
 use Rattle.rules_hour.proofs.KeptLaws.{accepted-call, refused-call, one-more, next-floor, hour-kept}
+use Rattle.rules_hour.proofs.FourIntervals.{accepted-exactly}
 use Rattle.rules_hour.proofs.Caps.{cut-exactly, uncut-exactly}
 use Rattle.rules_hour.proofs.CurveShape.{shape}
 
@@ -64,11 +65,15 @@ module _ (o : Opening) (calls : List Interval) (v : Interval) (r : ℕ) (accepte
       ∙ capped-again (floorIn (hourOf o calls) r .price) (cutOf (marketOf o) v r) (submittedPrice o r q) (defaultPrice o r q)
       ∙ ap (λ (x : ℤ). capped (cutOf (marketOf o) v r) x (defaultPrice o r q)) (sym before)
 
+  -- none of 13 to 16 applies to it
+  sound : hourRefusal (hourOf o calls) v ≡ 0 → intervalRefusal (o .resources) v ≡ 0
+  sound e = accepted-exactly o calls accepted v .0 e .1
+
   pub interval-by-interval : IntervalStep o calls v r
   interval-by-interval = record {
     cuts = cut-by;
     smaller = λ e d C h a p k q i.
-        cut-by e q i ∙ ap (λ (x : FloorPrice). capped x (priceAfter o calls r q) (defaultPrice o r q)) (cut-exactly o accepted v r C h d a p k);
-    stays = λ e C h a q i. cut-by e q i ∙ ap (λ (x : FloorPrice). capped x (priceAfter o calls r q) (defaultPrice o r q)) (uncut-exactly o accepted v r C h a);
+        cut-by e q i ∙ ap (λ (x : FloorPrice). capped x (priceAfter o calls r q) (defaultPrice o r q)) (cut-exactly o accepted v (sound e) r C h d a p k);
+    stays = λ e C h a q i. cut-by e q i ∙ ap (λ (x : FloorPrice). capped x (priceAfter o calls r q) (defaultPrice o r q)) (uncut-exactly o accepted v (sound e) r C h a);
     refused = λ n e. one-more (openedHour o) calls v ∙ refused-call (hourOf o calls) v n e;
   }

@@ -31,26 +31,6 @@ use Rattle.rules_opening.specs.Resources.{rowOf}
 abbrev pub nextHour : Hour → Interval → Hour
 nextHour h v = standingAt h (nextStanding (h .market) (h .standing) v)
 
--- the three ways of a call: 12, 13 to 16, or accepted
-pub data Call (h : Hour) (v : Interval) : Type 0 where
-  full : 4 ≤ h .standing .accepted → hourAfter h v ≡ h → Call h v
-  faulty : (n : ℕ) → intervalRefusal (h .market .resources) v ≡ suc n → hourAfter h v ≡ h → Call h v
-  taken : h .standing .accepted < 4 → intervalRefusal (h .market .resources) v ≡ 0 → hourAfter h v ≡ nextHour h v → Call h v
-
--- a call by its two tests
-by-tests : (h : Hour) (v : Interval) {t : Bool} {n : ℕ} → ltb (h .standing .accepted) 4 ≡ t → intervalRefusal (h .market .resources) v ≡ n
-    → hourAfter h v ≡ standingAt h (standingUnless (unless t 12 then n) (nextStanding (h .market) (h .standing) v) (h .standing))
-unfolding hourAfter standingAfter callRefusal
-by-tests h v = ap₂ (λ (t : Bool) (n : ℕ). standingAt h (standingUnless (unless t 12 then n) (nextStanding (h .market) (h .standing) v) (h .standing)))
-
--- every call goes one of them
-pub call : (h : Hour) (v : Interval) → Call h v
-call h v = ⊎-elim (λ l. full l (by-tests h v (le-ltb (h .standing .accepted) 4 l) refl)) (λ l. go l (intervalRefusal (h .market .resources) v) refl) (le-or-lt 4 (h .standing .accepted))
-  where
-    go : h .standing .accepted < 4 → (n : ℕ) → intervalRefusal (h .market .resources) v ≡ n → Call h v
-    go l zero e = taken l e (by-tests h v (lt-ltb (h .standing .accepted) 4 l) e)
-    go l (suc n) e = faulty n e (by-tests h v (lt-ltb (h .standing .accepted) 4 l) e)
-
 -- an accepted call gives the next hour, and a refused one leaves the hour as it was
 module _ (h : Hour) (v : Interval) where
   pub accepted-call : hourRefusal h v ≡ 0 → hourAfter h v ≡ nextHour h v
@@ -60,6 +40,27 @@ module _ (h : Hour) (v : Interval) where
   pub refused-call : (n : ℕ) → hourRefusal h v ≡ suc n → hourAfter h v ≡ h
   unfolding hourAfter standingAfter
   refused-call n e = ap (λ (m : ℕ). standingAt h (standingUnless m (nextStanding (h .market) (h .standing) v) (h .standing))) e
+
+  -- the three ways of a call: 12, 13 to 16, or accepted
+  pub data Call : Type 0 where
+    full : 4 ≤ h .standing .accepted → hourRefusal h v ≡ 12 → hourAfter h v ≡ h → Call
+    faulty : (n : ℕ) → intervalRefusal (h .market .resources) v ≡ suc n → hourRefusal h v ≡ suc n → hourAfter h v ≡ h → Call
+    taken : h .standing .accepted < 4 → intervalRefusal (h .market .resources) v ≡ 0 → hourRefusal h v ≡ 0 → hourAfter h v ≡ nextHour h v → Call
+
+  -- a call's number by its two tests
+  by-tests : {t : Bool} {n : ℕ} → ltb (h .standing .accepted) 4 ≡ t → intervalRefusal (h .market .resources) v ≡ n → hourRefusal h v ≡ (unless t 12 then n)
+  unfolding callRefusal
+  by-tests = ap₂ (λ (t : Bool) (n : ℕ). unless t 12 then n)
+
+  -- every call goes one of them
+  pub call : Call
+  call =
+      ⊎-elim (λ l. let r = by-tests (le-ltb (h .standing .accepted) 4 l) refl in full l r (refused-call 11 r)) (λ l. go l (intervalRefusal (h .market .resources) v) refl)
+      (le-or-lt 4 (h .standing .accepted))
+    where
+      go : h .standing .accepted < 4 → (n : ℕ) → intervalRefusal (h .market .resources) v ≡ n → Call
+      go l zero e = let r = by-tests (lt-ltb (h .standing .accepted) 4 l) e in taken l e r (accepted-call r)
+      go l (suc n) e = let r = by-tests (lt-ltb (h .standing .accepted) 4 l) e in faulty n e r (refused-call n r)
 
 -- the hour after a list and one more call
 pub one-more : (h : Hour) (calls : List Interval) (v : Interval) → hourAfterAll h (calls ++ (v ∷ [])) ≡ hourAfter (hourAfterAll h calls) v
@@ -104,9 +105,9 @@ module _ (o : Opening) (h : Hour) (k : Kept o h) where
   call-kept v = go (call h v)
     where
       go : Call h v → Kept o (hourAfter h v)
-      go (full f e) = rw e k
-      go (faulty n f e) = rw e k
-      go (taken f g e) = rw e (next-kept v)
+      go (full f x e) = rw e k
+      go (faulty n f x e) = rw e k
+      go (taken f g x e) = rw e (next-kept v)
 
   -- a row's curve, from the submitted bid and the default curve
   pub kept-curve : (r : ℕ) → r < o .resources → curveIn h r ≡ mitigated (floorIn h r .price) (submitted o r) (defaultOf o r)

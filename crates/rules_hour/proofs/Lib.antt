@@ -1,14 +1,19 @@
 -- What the definitions mean, their laws, and worked cases.
 pub mod RisingLaws
 pub mod AcceptedOpening
+pub mod Counterflow
+pub mod TopPadding
 pub mod MarketLaws
+pub mod Exactly
 pub mod KeptLaws
 pub mod CallLaws
+pub mod Answers
 pub mod Caps
 pub mod CurveShape
 pub mod Demand3
-pub mod IntervalStep
 pub mod FourIntervals
+pub mod IntervalStep
+pub mod VerdictNumbers
 pub mod Marked
 pub mod WorkedHour
-pub mod Exactly
+pub mod WorkedSums
