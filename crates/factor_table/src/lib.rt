@@ -9,7 +9,7 @@ ghost use lib.ListN.{length, drop, replicate};
 ghost use lib.IntN.{pos};
 ghost use Rattle.rules_text.specs.Numbers.{lines, row};
 ghost use Rattle.rules_text.specs.Tables.{ifSuits};
-ghost use Rattle.rules_text.specs.Offsets.{lineAt};
+ghost use Rattle.rules_text.specs.Offsets.{lineAt, bytesOf};
 ghost use Rattle.rules_parts.specs.Parts.{isDeclared, place, isFactor, factorCell, factorRows, withFactors};
 ghost use Rattle.factor_table.specs.Factors.{asFactor};
 
@@ -117,6 +117,7 @@ pub fn factors_at(s: &[u8], at: usize, n: usize, m: usize) -> Factors
     ensures { λ r. ⌜ r .count ≡ length (factorRows n m (lines (drop at (now (s .entry))))) ⌝ }
     ensures { λ r. ⌜ r .factors ≡ withFactors (replicate 2048 (pos 0)) (factorRows n m (lines (drop at (now (s .entry))))) ⌝ }
     ensures { λ r. ⌜ lines (drop (r .next) (now (s .entry))) ≡ drop (r .count) (lines (drop at (now (s .entry)))) ⌝ }
+    ensures { λ r. ⌜ r .next ≡ at + bytesOf (r .count) (lines (drop at (now (s .entry)))) ⌝ }
 {
     let mut factors = [0i64; Interval::MAX_FACTORS];
     let mut count = 0;

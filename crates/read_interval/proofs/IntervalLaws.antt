@@ -6,7 +6,7 @@ use lib.ListN.{length, drop}
 use lib.IntN.{ℤ}
 use Rattle.rules_text.specs.Numbers.{Row, bytes, lines}
 use Rattle.rules_text.specs.Tables.{Reader, Reading, faulty, found, next, _▷_, headed, due, counting, counted, hasId, rows}
-use Rattle.rules_text.specs.Offsets.{namesAt}
+use Rattle.rules_text.specs.Offsets.{namesAt, bytesOf}
 use Rattle.rules_text.specs.declared.Found.the-variants.{At, Nothing}
 use Rattle.rules_text.proofs.NameLaws.{not-headed, past-names}
 use Rattle.rules_parts.specs.Parts.{factorRows, isFactor, parameterOf, intervalOf, readInterval}
@@ -17,17 +17,17 @@ use Rattle.read_interval.proofs.ReadLaws.{refuses}
 
 -- ---- the tables
 module _ (s : List ℕ) (n at q : ℕ) (count at' : ℕ) where
-  pub constraint-stage : At q ≡ namesAt s at (bytes "constraint shadow\n") → count ≡ length (counting 2 (lines (drop q s))) → lines (drop at' s) ≡ drop count (lines (drop q s))
+  pub constraint-stage : At q ≡ namesAt s at (bytes "constraint shadow\n") → count ≡ length (counting 2 (lines (drop q s))) → at' ≡ q + bytesOf count (lines (drop q s))
       → Stage (headed "constraint shadow\n" (counted 2)) s n at (counting 2 (lines (drop q s))) (n + 1 + count) at'
   unfolding counted
   constraint-stage e = table "constraint shadow\n" (counting 2) refl (run-few 2 hasId _ 0) s n at q e count at'
 
-  pub output-stage : At q ≡ namesAt s at (bytes "resource lmp dispatch available floor\n") → count ≡ length (counting 5 (lines (drop q s))) → lines (drop at' s) ≡ drop count (lines (drop q s))
+  pub output-stage : At q ≡ namesAt s at (bytes "resource lmp dispatch available floor\n") → count ≡ length (counting 5 (lines (drop q s))) → at' ≡ q + bytesOf count (lines (drop q s))
       → Stage (headed "resource lmp dispatch available floor\n" (counted 5)) s n at (counting 5 (lines (drop q s))) (n + 1 + count) at'
   unfolding counted
   output-stage e = table "resource lmp dispatch available floor\n" (counting 5) refl (run-few 5 hasId _ 0) s n at q e count at'
 
-  pub factor-stage : (k m : ℕ) → At q ≡ namesAt s at (bytes "resource constraint factor\n") → count ≡ length (factorRows k m (lines (drop q s))) → lines (drop at' s) ≡ drop count (lines (drop q s))
+  pub factor-stage : (k m : ℕ) → At q ≡ namesAt s at (bytes "resource constraint factor\n") → count ≡ length (factorRows k m (lines (drop q s))) → at' ≡ q + bytesOf count (lines (drop q s))
       → Stage (headed "resource constraint factor\n" (rows (factorRows k m))) s n at (factorRows k m (lines (drop q s))) (n + 1 + count) at'
   unfolding factorRows
   factor-stage k m e = table "resource constraint factor\n" (factorRows k m) refl (run-few 3 (isFactor k m) _ 0) s n at q e count at'

@@ -1,5 +1,5 @@
 -- Laws of reading at an offset of a text: what an answer shows, a line of one value, and the parameter. Assumes nothing.
-use Prim.Native.Nat.{ℕ, zero, suc, _+_}
+use Prim.Native.Nat.{ℕ, zero, suc, _+_, _-_}
 use mathlib.Core.Path.{_≡_, refl, sym, ap, _∙_}
 use mathlib.Core.List.{List, [], _∷_}
 use mathlib.Core.Option.{Option, none, some}
@@ -11,8 +11,9 @@ use Rattle.rules_text.specs.Numbers.{Line, Row, bytes, same, lines, row}
 use Rattle.rules_text.specs.Tables.{Reading, faulty, found, taken, due, headed, cell, one, single, ifSuits}
 use Rattle.rules_text.proofs.LineLaws.{line, after, lines-after, next-lines}
 use Rattle.rules_text.proofs.TableLaws.{row-there, due-none, due-some}
+use Rattle.rules_text.proofs.UsedLaws.{Used, used-then, Rises}
 use Rattle.rules_parts.specs.Parts.{parameterOf}
-use Rattle.read_interval.specs.Shown.{reading, faultAlone, aloneIf}
+use Rattle.read_interval.specs.Shown.{reading, faultAlone, aloneIf, nextIf}
 use Rattle.read_interval.specs.declared.IntervalRead.{IntervalRead}
 
 -- ---- what an answer shows
@@ -22,6 +23,24 @@ refuses s f (suc fault) a line next e h = ap (λ (n : ℕ). reading s n a line n
 
 pub refuses-after : {A : Type 0} (s : List ℕ) (f n : ℕ) (a : A) (line next : ℕ) → f ≡ n + 1 → reading s f a line next ≡ faulty (n + 1)
 refuses-after s f n a line next e = refuses s f (n + 1) a line next e (λ z. omega arith)
+
+-- ---- the offset after what is read
+-- a fault has none
+pub no-next : (fault at k : ℕ) (ls : List Line) → (fault ≡ 0 → ⊥) → 0 ≡ nextIf fault at k ls
+no-next zero at k ls h = absurd (h refl)
+no-next (suc fault) at k ls h = refl
+
+-- without a fault, the lines that it counts are used
+pub read-used : {A : Type 0} (s : List ℕ) (n at fault : ℕ) (a : A) (line next : ℕ) (r : Reading A) → reading s fault a line next ≡ r → Rises n r → fault ≡ 0
+    → next ≡ nextIf fault at (line - n) (lines (drop at s)) → Used s n at line next
+read-used s n at zero a line next r e h z o = record { up = h a line (lines (drop next s)) (sym e); offset = o }
+read-used s n at (suc fault) a line next r e h z o = absurd (omega arith)
+
+-- what is read after lines that are used
+pub read-on : {A : Type 0} {s : List ℕ} {n at n' at' : ℕ} → Used s n at n' at' → (fault : ℕ) (a : A) (line next : ℕ) (r : Reading A) → reading s fault a line next ≡ r → Rises n' r
+    → next ≡ nextIf fault at' (line - n') (lines (drop at' s)) → next ≡ nextIf fault at (line - n) (lines (drop at s))
+read-on {s = s} {n' = n'} {at' = at'} u zero a line next r e h o = used-then u (read-used s n' at' zero a line next r e h refl o) .offset
+read-on u (suc fault) a line next r e h o = o
 
 -- past the line at an offset
 pub past-line : (s : List ℕ) (at q : ℕ) → q ≡ at + length (line (drop at s)) → lines (after (drop at s)) ≡ lines (drop q s)
@@ -69,3 +88,6 @@ alone-of r (suc f) e = e
 
 pub alone : (r : IntervalRead) (f : ℕ) → r ≡ faultAlone f → r ≡ aloneIf (r .fault) r
 alone r f e = alone-of r f e ∙ ap (λ (n : ℕ). aloneIf n r) (sym (ap (λ (x : IntervalRead). x .fault) e))
+
+pub alone-next : (r : IntervalRead) (f : ℕ) → r ≡ faultAlone f → (f ≡ 0 → ⊥) → (at k : ℕ) (ls : List Line) → r .next ≡ nextIf (r .fault) at k ls
+alone-next r f e h at k ls = ap (λ (x : IntervalRead). x .next) e ∙ no-next f at k ls h ∙ ap (λ (n : ℕ). nextIf n at k ls) (sym (ap (λ (x : IntervalRead). x .fault) e))

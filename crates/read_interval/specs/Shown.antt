@@ -1,11 +1,12 @@
 -- What the code's answers stand for.
-use Prim.Native.Nat.{ℕ, zero, suc}
+use Prim.Native.Nat.{ℕ, zero, suc, _+_}
 use mathlib.Core.List.{List}
 use lib.ListN.{drop, replicate}
 use lib.IntN.{ℤ, pos}
 use Rattle.rules_interval.specs.declared.Interval.{Interval}
-use Rattle.rules_text.specs.Numbers.{lines}
+use Rattle.rules_text.specs.Numbers.{Line, lines}
 use Rattle.rules_text.specs.Tables.{Reading, faulty, found}
+use Rattle.rules_text.specs.Offsets.{bytesOf}
 use Rattle.read_interval.specs.declared.Value.{Value}
 use Rattle.text_tables.specs.declared.Constraints.{Constraints}
 use Rattle.read_interval.specs.declared.Outputs.{Outputs}
@@ -16,6 +17,11 @@ use Rattle.read_interval.specs.declared.IntervalRead.{IntervalRead}
 abbrev pub reading : {A : Type 0} → List ℕ → ℕ → A → ℕ → ℕ → Reading A
 reading s zero a line next = found a line (lines (drop next s))
 reading s (suc fault) a line next = faulty (suc fault)
+
+-- fault 0: the offset after the first k of the lines at offset `at`; a faulty line's number comes with 0
+abbrev pub nextIf : ℕ → ℕ → ℕ → List Line → ℕ
+nextIf zero at k ls = at + bytesOf k ls
+nextIf (suc fault) at k ls = 0
 
 abbrev pub shownValue : List ℕ → Value → Reading ℤ
 shownValue s r = reading s (r .fault) (r .value) (r .line) (r .next)

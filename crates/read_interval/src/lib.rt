@@ -11,14 +11,14 @@ use text_tables::Constraints;
 use text_tables::constraints_at;
 ghost use mathlib.Core.Path.{_≡_};
 ghost use mathlib.Core.List.{map};
-ghost use Prim.Native.Nat.{_+_, _≤_, min};
+ghost use Prim.Native.Nat.{_+_, _-_, _≤_, min};
 ghost use lib.ListN.{length, drop};
 ghost use lib.IntN.{pos};
 ghost use Rattle.rules_text.specs.Numbers.{lines};
 ghost use Rattle.rules_text.specs.Tables.{cell, counting, due, single};
-ghost use Rattle.rules_text.specs.Offsets.{kept};
+ghost use Rattle.rules_text.specs.Offsets.{kept, bytesOf};
 ghost use Rattle.rules_parts.specs.Parts.{parameterOf, readInterval};
-ghost use Rattle.read_interval.specs.Shown.{shownValue, tablesOf, shownInterval, faultAlone, aloneIf};
+ghost use Rattle.read_interval.specs.Shown.{shownValue, tablesOf, shownInterval, faultAlone, aloneIf, nextIf};
 
 // A text has at most so many lines: a larger number before a part counts as that.
 pub const MAX_LINES: usize = 65_536;
@@ -53,6 +53,7 @@ pub struct Value {
 fn value_at(s: &[u8], at: usize, n: usize) -> Value
     requires { ⌜ n ≤ 70000 + length (now s) ⌝ }
     ensures { λ r. ⌜ shownValue (now (s .entry)) r ≡ due single n (lines (drop at (now (s .entry)))) ⌝ }
+    ensures { λ r. ⌜ r .next ≡ nextIf (r .fault) at (r .line - n) (lines (drop at (now (s .entry)))) ⌝ }
 {
     let row = row_of(s, at, 1);
     let v = row.v;
@@ -80,6 +81,7 @@ fn outputs_at(s: &[u8], at: usize) -> Outputs
     ensures { λ r. ⌜ r .available ≡ kept 64 (pos 0) (map (cell 3) (counting 5 (lines (drop at (now (s .entry)))))) ⌝ }
     ensures { λ r. ⌜ r .floor ≡ kept 64 (pos 0) (map (cell 4) (counting 5 (lines (drop at (now (s .entry)))))) ⌝ }
     ensures { λ r. ⌜ lines (drop (r .next) (now (s .entry))) ≡ drop (r .count) (lines (drop at (now (s .entry)))) ⌝ }
+    ensures { λ r. ⌜ r .next ≡ at + bytesOf (r .count) (lines (drop at (now (s .entry)))) ⌝ }
 {
     let mut lmp = [0i64; Interval::MAX_RESOURCES];
     let mut dispatch = [0i64; Interval::MAX_RESOURCES];
@@ -115,6 +117,7 @@ fn outputs_at(s: &[u8], at: usize) -> Outputs
 fn parameter_at(s: &[u8], at: usize, n: usize) -> Value
     requires { ⌜ n ≤ 70000 + length (now s) ⌝ }
     ensures { λ r. ⌜ shownValue (now (s .entry)) r ≡ due parameterOf n (lines (drop at (now (s .entry)))) ⌝ }
+    ensures { λ r. ⌜ r .next ≡ nextIf (r .fault) at (r .line - n) (lines (drop at (now (s .entry)))) ⌝ }
 {
     let Found::At(next) = line_is(s, at, b"-\n") else {
         return value_at(s, at, n);
@@ -181,6 +184,7 @@ fn no_interval(fault: usize) -> IntervalRead
 pub fn interval_at(s: &[u8], at: usize, line: usize) -> IntervalRead
     ensures reading { λ r. ⌜ shownInterval (now (s .entry)) r ≡ readInterval (min line 65536) (lines (drop at (now (s .entry)))) ⌝ }
     ensures refusal { λ r. ⌜ r ≡ aloneIf (r .fault) r ⌝ }
+    ensures after { λ r. ⌜ r .next ≡ nextIf (r .fault) at (r .line - min line 65536) (lines (drop at (now (s .entry)))) ⌝ }
 {
     let line = number::at_most(line, MAX_LINES);
     let Found::At(at) = line_is(s, at, b"constraint shadow\n") else {

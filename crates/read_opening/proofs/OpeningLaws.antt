@@ -12,13 +12,15 @@ use Rattle.rules_opening.specs.declared.Resource.{Resource}
 use Rattle.rules_curve.specs.declared.RawCurve.{RawCurve}
 use Rattle.rules_cost.specs.declared.Costs.{Costs}
 use Rattle.rules_opening.specs.Openings.{noRaw, noCosts}
-use Rattle.rules_text.specs.Numbers.{Row}
+use Rattle.rules_text.specs.Numbers.{Line, Row}
 use Rattle.rules_text.specs.Tables.{cell}
 use Rattle.rules_text.specs.Offsets.{kept}
 use Rattle.rules_text.proofs.ListLaws.{sets-read}
 use Rattle.rules_text.proofs.TableLaws.{kept-length}
 use Rattle.rules_parts.specs.Parts.{bidOf, costsOf, resourceOf, resourcesOf}
 use Rattle.read_resources.specs.Joined.{joined}
+use Rattle.read_interval.specs.Shown.{nextIf}
+use Rattle.read_interval.proofs.ReadLaws.{no-next}
 use Rattle.read_opening.specs.Listed.{resourceFrom, listFrom}
 use Rattle.read_opening.specs.Shown.{faultAlone, aloneIf}
 use Rattle.read_opening.specs.declared.OpeningRead.{OpeningRead}
@@ -112,3 +114,6 @@ alone-of r (suc f) e = e
 
 pub alone : (r : OpeningRead) (f : ℕ) → r ≡ faultAlone f → r ≡ aloneIf (r .fault) r
 alone r f e = alone-of r f e ∙ ap (λ (n : ℕ). aloneIf n r) (sym (ap (λ (x : OpeningRead). x .fault) e))
+
+pub alone-next : (r : OpeningRead) (f : ℕ) → r ≡ faultAlone f → (f ≡ 0 → ⊥) → (at k : ℕ) (ls : List Line) → r .next ≡ nextIf (r .fault) at k ls
+alone-next r f e h at k ls = ap (λ (x : OpeningRead). x .next) e ∙ no-next f at k ls h ∙ ap (λ (n : ℕ). nextIf n at k ls) (sym (ap (λ (x : OpeningRead). x .fault) e))

@@ -14,7 +14,7 @@ use Rattle.rules_opening.specs.declared.Resource.{Resource}
 use Rattle.rules_opening.specs.declared.Opening.{Opening}
 use Rattle.rules_text.specs.Numbers.{Line, Row, bytes, same, lines, row}
 use Rattle.rules_text.specs.Tables.{Reading, Reader, faulty, found, next, _▷_, headed, due, taken, single, cell, hasId, ifSuits, counting, counted, rows, grouped, pairs, each}
-use Rattle.rules_text.specs.Offsets.{namesAt, kept}
+use Rattle.rules_text.specs.Offsets.{namesAt, kept, bytesOf}
 use Rattle.rules_text.specs.declared.Found.the-variants.{At, Nothing}
 use Rattle.text_tables.specs.declared.Portfolios.{Portfolios}
 use Rattle.rules_text.proofs.NameLaws.{not-headed, past-names}
@@ -25,6 +25,7 @@ use Rattle.text_tables.specs.declared.Owners.{Owners}
 use Rattle.rules_text.proofs.LineLaws.{line}
 use Rattle.read_interval.proofs.ReadLaws.{refuses, value-missing, value-found}
 use Rattle.rules_text.proofs.StageLaws.{Stage, names-few, run-few, table}
+use Rattle.rules_text.proofs.UsedLaws.{used-names, used-line, used-then, Rises, rises-found, rises-then, rises-headed, rises-each, rises-grouped}
 use Rattle.read_opening.proofs.OpeningLaws.{list-is}
 
 -- ---- what is kept of what was read
@@ -40,6 +41,9 @@ got blank f (found xs k rest) a n ls e = record { xs = xs; is = (let p : k ≡ n
 got-fault : {A X : Type 0} (blank : X) (f : A → X) (r : Reading (List A)) (fault : ℕ) → faulty fault ≡ keeping 64 blank f r → r ≡ faulty fault
 got-fault blank f (faulty k) fault e = let p : k ≡ fault = cc in ap faulty p
 got-fault blank f (found xs k rest) fault e = let z : _≡_ {A = ℕ} 0 1 = cc in absurd (omega arith)
+
+pub rises-keeping : {A X : Type 0} (blank : X) (f : A → X) (n : ℕ) (r : Reading (List A)) → Rises n r → Rises n (keeping 64 blank f r)
+rises-keeping blank f n r h = rises-then n r (λ xs. found (kept 64 blank (map f xs))) h (λ xs. rises-found (kept 64 blank (map f xs)))
 
 -- ---- the last three tables
 abbrev bidsOf : List (List Row) → List RawCurve
@@ -71,6 +75,15 @@ module _ (month : ℤ) (ps : Portfolios) (os : Owners) where
   rest-is : (n : ℕ) (ls : List Line) → readRest month ps os n ls ≡ lastThree (os .count) made n ls
   unfolding readRest
   rest-is n ls = refl
+
+  pub rises-rest : (n : ℕ) (ls : List Line) → Rises n (readRest month ps os n ls)
+  unfolding readRest
+  rises-rest n ls =
+      let m = os .count in
+      rises-then n (headed "resource end price\n" (grouped pairs m 0) n ls) (lastTwo m made) (rises-headed "resource end price\n" (grouped pairs m 0) (rises-grouped pairs m 0) n ls)
+      (λ steps i l. rises-then i (headed "resource mw heat\n" (grouped pairs m 0) i l) (lastOne m made steps) (rises-headed "resource mw heat\n" (grouped pairs m 0) (rises-grouped pairs m 0) i l)
+      (λ points j k. rises-then j (headed costTable (each 8 m 0) j k) (λ costs. found (made steps points costs)) (rises-headed costTable (each 8 m 0) (rises-each 8 m 0) j k)
+      (λ costs. rises-found (made steps points costs))))
 
   module _ (s : List ℕ) (n at : ℕ) where
     pub unnamed-steps : Nothing ≡ namesAt s at (bytes "resource end price\n") → readRest month ps os n (lines (drop at s)) ≡ faulty (n + 1)
@@ -213,12 +226,12 @@ due-few is n [] a k rest e = let z : _≡_ {A = ℕ} 0 1 = cc in absurd (omega a
 due-few is n (l ∷ ls) a k rest e = taken-few (is l) n ls a k rest e
 
 module _ (s : List ℕ) (n at q count at' : ℕ) where
-  pub portfolio-stage : At q ≡ namesAt s at (bytes "portfolio seller\n") → count ≡ length (counting 2 (lines (drop q s))) → lines (drop at' s) ≡ drop count (lines (drop q s))
+  pub portfolio-stage : At q ≡ namesAt s at (bytes "portfolio seller\n") → count ≡ length (counting 2 (lines (drop q s))) → at' ≡ q + bytesOf count (lines (drop q s))
       → Stage (headed "portfolio seller\n" (counted 2)) s n at (counting 2 (lines (drop q s))) (n + 1 + count) at'
   unfolding counted
   portfolio-stage e = table "portfolio seller\n" (counting 2) refl (run-few 2 hasId _ 0) s n at q e count at'
 
-  pub owner-stage : At q ≡ namesAt s at (bytes "resource portfolio start\n") → count ≡ length (counting 3 (lines (drop q s))) → lines (drop at' s) ≡ drop count (lines (drop q s))
+  pub owner-stage : At q ≡ namesAt s at (bytes "resource portfolio start\n") → count ≡ length (counting 3 (lines (drop q s))) → at' ≡ q + bytesOf count (lines (drop q s))
       → Stage (headed "resource portfolio start\n" (counted 3)) s n at (counting 3 (lines (drop q s))) (n + 1 + count) at'
   unfolding counted
   owner-stage e = table "resource portfolio start\n" (counting 3) refl (run-few 3 hasId _ 0) s n at q e count at'
@@ -238,7 +251,7 @@ module _ (s : List ℕ) (n at : ℕ) where
         let v = value-found s q (n + 1) x m at1 a in
         let f = due-few single (n + 1) (lines (drop q s)) (cell 0 x) (n + 1 + 1) (lines (drop at1 s)) v in
         let g = names-few "month\n" s at refl q e in
-        record { is = past-names "month\n" (due single) n s at refl q e ∙ v; few = omega arith }
+        record { is = past-names "month\n" (due single) n s at refl q e ∙ v; few = omega arith; used = used-then (used-names "month\n" s n at refl q e) (used-line s (n + 1) q at1 a) }
 
   module _ (month : ℤ) (n1 at1 : ℕ) (one : Stage (headed "month\n" (due single)) s n at month n1 at1) where
     read-one : readOpening n (lines (drop at s)) ≡ lastFive month n1 (lines (drop at1 s))

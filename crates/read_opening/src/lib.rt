@@ -24,10 +24,11 @@ use text_tables::Portfolios;
 use text_tables::owners_at;
 use text_tables::portfolios_at;
 ghost use mathlib.Core.Path.{_≡_};
-ghost use Prim.Native.Nat.{_+_, _≤_, min};
+ghost use Prim.Native.Nat.{_+_, _-_, _≤_, min};
 ghost use lib.ListN.{length, drop};
 ghost use Rattle.rules_text.specs.Numbers.{lines};
 ghost use Rattle.rules_parts.specs.Parts.{readOpening};
+ghost use Rattle.read_interval.specs.Shown.{nextIf};
 ghost use Rattle.read_opening.specs.Listed.{listFrom};
 ghost use Rattle.read_opening.specs.Shown.{openingFrom, readRest, shownOpening, faultAlone, aloneIf};
 
@@ -121,6 +122,7 @@ fn rest_at(
     requires { ⌜ n + length (lines (drop at (now s))) ≤ 66000 + length (now s) ⌝ }
     ensures reading { λ r. ⌜ shownOpening (now (s .entry)) r ≡ readRest month portfolios owners n (lines (drop at (now (s .entry)))) ⌝ }
     ensures refusal { λ r. ⌜ r ≡ aloneIf (r .fault) r ⌝ }
+    ensures after { λ r. ⌜ r .next ≡ nextIf (r .fault) at (r .line - n) (lines (drop at (now (s .entry)))) ⌝ }
 {
     let m = owners.count;
     let Found::At(at) = line_is(s, at, b"resource end price\n") else {
@@ -155,6 +157,7 @@ fn rest_at(
 pub fn opening_at(s: &[u8], at: usize, line: usize) -> OpeningRead
     ensures reading { λ r. ⌜ shownOpening (now (s .entry)) r ≡ readOpening (min line 65536) (lines (drop at (now (s .entry)))) ⌝ }
     ensures refusal { λ r. ⌜ r ≡ aloneIf (r .fault) r ⌝ }
+    ensures after { λ r. ⌜ r .next ≡ nextIf (r .fault) at (r .line - min line 65536) (lines (drop at (now (s .entry)))) ⌝ }
 {
     let line = number::at_most(line, MAX_LINES);
     let Found::At(at) = line_is(s, at, b"month\n") else {

@@ -16,14 +16,14 @@ use text_lines::is_id;
 use text_lines::three_at;
 ghost use mathlib.Core.Path.{_≡_};
 ghost use mathlib.Core.List.{[]};
-ghost use Prim.Native.Nat.{_+_, _≤_};
+ghost use Prim.Native.Nat.{_+_, _-_, _≤_};
 ghost use lib.ListN.{length, drop};
 ghost use lib.IntN.{pos};
 ghost use Rattle.rules_text.specs.Numbers.{lines};
 ghost use Rattle.rules_text.specs.Tables.{found, grouped, pairs, each};
-ghost use Rattle.rules_text.specs.Offsets.{rowAt, threeOf};
+ghost use Rattle.rules_text.specs.Offsets.{rowAt, threeOf, bytesOf};
 ghost use Rattle.rules_parts.specs.Parts.{bidOf, costsOf};
-ghost use Rattle.read_interval.specs.Shown.{reading};
+ghost use Rattle.read_interval.specs.Shown.{reading, nextIf};
 ghost use Rattle.read_opening.specs.Shown.{keeping};
 
 // A resource's steps, with the line after them and its offset.
@@ -61,6 +61,7 @@ fn steps_of(s: &[u8], at: usize, first: Three, r: usize) -> Steps
     ensures { λ g. ⌜ g .bid ≡ bidOf (pos 0) (pairs r (lines (drop at (now (s .entry))))) ⌝ }
     ensures { λ g. ⌜ g .row ≡ threeOf (rowAt (now (s .entry)) (g .next) 3) ⌝ }
     ensures { λ g. ⌜ lines (drop (g .next) (now (s .entry))) ≡ drop (g .bid .count) (lines (drop at (now (s .entry)))) ⌝ }
+    ensures { λ g. ⌜ g .next ≡ at + bytesOf (g .bid .count) (lines (drop at (now (s .entry)))) ⌝ }
 {
     let mut steps = [RawStep { end: 0, price: 0 }; Curve::MAX_STEPS];
     let mut count = 0;
@@ -99,6 +100,7 @@ fn points_of(s: &[u8], at: usize, first: Three, r: usize) -> Points
     ensures { λ g. ⌜ g .costs ≡ costsOf (pairs r (lines (drop at (now (s .entry))))) [] ⌝ }
     ensures { λ g. ⌜ g .row ≡ threeOf (rowAt (now (s .entry)) (g .next) 3) ⌝ }
     ensures { λ g. ⌜ lines (drop (g .next) (now (s .entry))) ≡ drop (g .costs .count) (lines (drop at (now (s .entry)))) ⌝ }
+    ensures { λ g. ⌜ g .next ≡ at + bytesOf (g .costs .count) (lines (drop at (now (s .entry)))) ⌝ }
 {
     let mut points = [Point { mw: 0, heat: 0 }; Costs::MAX_POINTS];
     let mut count = 0;
@@ -136,6 +138,7 @@ pub(crate) fn bids_at(s: &[u8], at: usize, m: usize, n: usize) -> Bids
     requires { ⌜ n + length (lines (drop at (now s))) ≤ 70000 + length (now s) ⌝ }
     ensures { λ r. ⌜ found (r .bids) (r .line) (lines (drop (r .next) (now (s .entry)))) ≡ keeping 64 (bidOf (pos 0) []) (bidOf (pos 0)) (grouped pairs m 0 n (lines (drop at (now (s .entry))))) ⌝ }
     ensures { λ r. ⌜ r .line + length (lines (drop (r .next) (now (s .entry)))) ≤ n + length (lines (drop at (now (s .entry)))) ⌝ }
+    ensures { λ r. ⌜ r .next ≡ at + bytesOf (r .line - n) (lines (drop at (now (s .entry)))) ⌝ }
 {
     let mut bids = [no_bid(); Interval::MAX_RESOURCES];
     let mut line = n;
@@ -162,6 +165,7 @@ pub(crate) fn points_at(s: &[u8], at: usize, m: usize, n: usize) -> CostsRead
     requires { ⌜ n + length (lines (drop at (now s))) ≤ 70000 + length (now s) ⌝ }
     ensures { λ r. ⌜ found (r .costs) (r .line) (lines (drop (r .next) (now (s .entry)))) ≡ keeping 64 (costsOf [] []) (λ xs. costsOf xs []) (grouped pairs m 0 n (lines (drop at (now (s .entry))))) ⌝ }
     ensures { λ r. ⌜ r .line + length (lines (drop (r .next) (now (s .entry)))) ≤ n + length (lines (drop at (now (s .entry)))) ⌝ }
+    ensures { λ r. ⌜ r .next ≡ at + bytesOf (r .line - n) (lines (drop at (now (s .entry)))) ⌝ }
 {
     let mut costs = [no_costs(); Interval::MAX_RESOURCES];
     let mut line = n;
@@ -192,6 +196,7 @@ pub(crate) fn points_at(s: &[u8], at: usize, m: usize, n: usize) -> CostsRead
 pub(crate) fn costs_at(s: &[u8], at: usize, m: usize, n: usize) -> CostsRead
     requires { ⌜ n + length (lines (drop at (now s))) ≤ 70000 + length (now s) ⌝ }
     ensures { λ r. ⌜ reading (now (s .entry)) (r .fault) (r .costs) (r .line) (r .next) ≡ keeping 64 (costsOf [] []) (costsOf []) (each 8 m 0 n (lines (drop at (now (s .entry))))) ⌝ }
+    ensures { λ r. ⌜ r .next ≡ nextIf (r .fault) at (r .line - n) (lines (drop at (now (s .entry)))) ⌝ }
 {
     let mut costs = [no_costs(); Interval::MAX_RESOURCES];
     let mut line = n;

@@ -10,6 +10,7 @@ pub mod Examples
 pub mod PrintLaws
 pub mod RoundTrip
 pub mod PrintExamples
+pub mod UsedLaws
 pub mod StageLaws
 pub mod ClosedLines
 pub mod OnlySpelling

@@ -1,7 +1,7 @@
 -- Laws of stages: a table with its names line, read at an offset of a text, ends at another, and what was read has no more lines than the text. Assumes nothing.
 use Prim.Native.Nat.{ℕ, suc, _+_, _≤_}
 use Prim.Native.String.{String}
-use mathlib.Core.Path.{_≡_, sym, ap, _∙_}
+use mathlib.Core.Path.{_≡_, refl, sym, ap, _∙_}
 use mathlib.Core.List.{List, [], _∷_}
 use mathlib.Core.Option.{Option, none, some}
 use mathlib.Core.Bool.{Bool, true, false, cond}
@@ -9,10 +9,11 @@ use native.Mathlib.Omega.{arith}
 use lib.ListN.{length, drop, length-drop}
 use Rattle.rules_text.specs.Numbers.{Line, Row, bytes, same, lines, row}
 use Rattle.rules_text.specs.Tables.{Reader, faulty, found, headed, ifSuits, andMore, run, rows}
-use Rattle.rules_text.specs.Offsets.{namesAt}
+use Rattle.rules_text.specs.Offsets.{namesAt, bytesOf}
 use Rattle.rules_text.specs.declared.Found.the-variants.{At}
 use Rattle.rules_text.proofs.LineLaws.{lines-few}
 use Rattle.rules_text.proofs.NameLaws.{isLine, past-names}
+use Rattle.rules_text.proofs.UsedLaws.{Used, bytes-past, used-lines, used-names, used-then}
 
 -- ---- how many lines are read
 more-few : (o : Option Row) (more : Row → List Row) (m : ℕ) → ((x : Row) → length (more x) ≤ m) → length (andMore o more) ≤ suc m
@@ -47,14 +48,16 @@ text-few s at = let f = lines-few (drop at s) in let d = length-drop at s in ome
 pub record Stage {A : Type 0} (r : Reader A) (s : List ℕ) (n at : ℕ) (x : A) (n' at' : ℕ) : Type 0 where
   pub is : r n (lines (drop at s)) ≡ found x n' (lines (drop at' s))
   pub few : n' + length (lines (drop at' s)) ≤ n + length (lines (drop at s))
+  pub used : Used s n at n' at'
 
 -- a table whose rows are those of `of`
 pub table : (names : String) (of : List Line → List Row) → isLine (bytes names) ≡ true → ((ls : List Line) → length (of ls) ≤ length ls)
-    → (s : List ℕ) (n at q : ℕ) → At q ≡ namesAt s at (bytes names) → (count at' : ℕ) → count ≡ length (of (lines (drop q s))) → lines (drop at' s) ≡ drop count (lines (drop q s))
+    → (s : List ℕ) (n at q : ℕ) → At q ≡ namesAt s at (bytes names) → (count at' : ℕ) → count ≡ length (of (lines (drop q s))) → at' ≡ q + bytesOf count (lines (drop q s))
     → Stage (headed names (rows of)) s n at (of (lines (drop q s))) (n + 1 + count) at'
 unfolding rows
-table names of w fits s n at q e count at' ec er =
+table names of w fits s n at q e count at' ec en =
     let ls = lines (drop q s) in
+    let er : lines (drop at' s) ≡ drop count (lines (drop q s)) = bytes-past s q count at' en in
     let f = names-few names s at w q e in
     let g = fits (lines (drop q s)) in
     let d : length (lines (drop at' s)) ≡ length (drop count (lines (drop q s))) = ap length er in
@@ -62,4 +65,5 @@ table names of w fits s n at q e count at' ec er =
     record {
       is = past-names names (rows of) n s at w q e ∙ ap (λ (k : ℕ). found (of ls) (n + 1 + k) (drop k ls)) (sym ec) ∙ ap (found (of ls) (n + 1 + count)) (sym er);
       few = omega arith;
+      used = used-then (used-names names s n at w q e) (used-lines s (n + 1) q count at' en (n + 1 + count) refl);
     }

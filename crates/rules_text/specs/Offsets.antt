@@ -9,6 +9,7 @@ use lib.Dec.{leb, eqb}
 use lib.IntN.{pos}
 use Rattle.rules_text.specs.Numbers.{Line, Row, same, lines, number, row}
 use Rattle.rules_text.specs.Tables.{ifSuits, hasId}
+use Rattle.rules_text.specs.Spelled.{together}
 use Rattle.rules_text.specs.declared.Number.{Number}
 use Rattle.rules_text.specs.declared.Number.the-variants.{Is, Not}
 use Rattle.rules_text.specs.declared.Row as source
@@ -61,3 +62,7 @@ idRowAt n = rowOf (ifSuits (hasId n))
 -- the first three values of a row
 abbrev pub threeOf : source.Row → Three
 threeOf r = record { ok = r .ok; first = getD (r .v) 0 (pos 0); second = getD (r .v) 1 (pos 0); third = getD (r .v) 2 (pos 0); next = r .next }
+
+-- the bytes of the first k of some lines: by so much the offset after them exceeds the one before
+unfoldable pub bytesOf : ℕ → List Line → ℕ
+bytesOf k ls = length (together (take k ls))

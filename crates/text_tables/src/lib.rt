@@ -5,11 +5,12 @@ use rules_path::Market;
 use text_lines::id_row_at;
 ghost use mathlib.Core.Path.{_≡_};
 ghost use mathlib.Core.List.{map};
+ghost use Prim.Native.Nat.{_+_};
 ghost use lib.ListN.{length, drop};
 ghost use lib.IntN.{pos};
 ghost use Rattle.rules_text.specs.Numbers.{lines};
 ghost use Rattle.rules_text.specs.Tables.{cell, counting};
-ghost use Rattle.rules_text.specs.Offsets.{kept};
+ghost use Rattle.rules_text.specs.Offsets.{kept, bytesOf};
 
 // The portfolio table: how many lines it has, the seller marks of the first 16, and the offset of the line after it.
 pub struct Portfolios {
@@ -38,6 +39,7 @@ pub fn portfolios_at(s: &[u8], at: usize) -> Portfolios
     ensures { λ r. ⌜ r .count ≡ length (counting 2 (lines (drop at (now (s .entry))))) ⌝ }
     ensures { λ r. ⌜ r .sellers ≡ kept 16 (pos 0) (map (cell 1) (counting 2 (lines (drop at (now (s .entry)))))) ⌝ }
     ensures { λ r. ⌜ lines (drop (r .next) (now (s .entry))) ≡ drop (r .count) (lines (drop at (now (s .entry)))) ⌝ }
+    ensures { λ r. ⌜ r .next ≡ at + bytesOf (r .count) (lines (drop at (now (s .entry)))) ⌝ }
 {
     let mut sellers = [0i64; Market::MAX_PORTFOLIOS];
     let mut count = 0;
@@ -66,6 +68,7 @@ pub fn owners_at(s: &[u8], at: usize) -> Owners
     ensures { λ r. ⌜ r .portfolio ≡ kept 64 (pos 0) (map (cell 1) (counting 3 (lines (drop at (now (s .entry)))))) ⌝ }
     ensures { λ r. ⌜ r .start ≡ kept 64 (pos 0) (map (cell 2) (counting 3 (lines (drop at (now (s .entry)))))) ⌝ }
     ensures { λ r. ⌜ lines (drop (r .next) (now (s .entry))) ≡ drop (r .count) (lines (drop at (now (s .entry)))) ⌝ }
+    ensures { λ r. ⌜ r .next ≡ at + bytesOf (r .count) (lines (drop at (now (s .entry)))) ⌝ }
 {
     let mut portfolio = [0i64; Interval::MAX_RESOURCES];
     let mut start = [0i64; Interval::MAX_RESOURCES];
@@ -96,6 +99,7 @@ pub fn constraints_at(s: &[u8], at: usize) -> Constraints
     ensures { λ r. ⌜ r .count ≡ length (counting 2 (lines (drop at (now (s .entry))))) ⌝ }
     ensures { λ r. ⌜ r .shadow ≡ kept 32 (pos 0) (map (cell 1) (counting 2 (lines (drop at (now (s .entry)))))) ⌝ }
     ensures { λ r. ⌜ lines (drop (r .next) (now (s .entry))) ≡ drop (r .count) (lines (drop at (now (s .entry)))) ⌝ }
+    ensures { λ r. ⌜ r .next ≡ at + bytesOf (r .count) (lines (drop at (now (s .entry)))) ⌝ }
 {
     let mut shadow = [0i64; Interval::MAX_CONSTRAINTS];
     let mut count = 0;

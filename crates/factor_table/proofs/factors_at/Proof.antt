@@ -14,6 +14,7 @@ use Rattle.rules_text.specs.Numbers.{Line, lines, row}
 use Rattle.rules_text.specs.Tables.{cell, ifSuits}
 use Rattle.rules_text.proofs.LineLaws.{line, line-at, lines-few}
 use Rattle.rules_text.proofs.TableLaws.{ends}
+use Rattle.rules_text.proofs.UsedLaws.{Used, used-none, used-next, used-count}
 use Rattle.rules_parts.specs.Parts.{place, isFactor, factorCell, factorRows, withFactors}
 use Rattle.factor_table.specs.Factors.{asFactor}
 use Rattle.factor_table.proofs.FactorLaws.{Reads, reads-start, stored, Goes, goes, up, Taken, taken, not-taken, constraint-below}
@@ -25,16 +26,16 @@ whole s at n m = withFactors (replicate 2048 (pos 0)) (factorRows n m (lines (dr
 
 abbrev Inv-loop : tie.InvT-loop
 Inv-loop s at n m factors₀ count₀ next₀ r₀ c₀ factors count next r c =
-    Reads n m count r c factors (drop next s) (lib.ListN.length (factorRows n m (lines (drop at s)))) (whole s at n m) (lines (drop at s))
+    Reads n m count r c factors (drop next s) (lib.ListN.length (factorRows n m (lines (drop at s)))) (whole s at n m) (lines (drop at s)) × Used s 0 at count next
 
 abbrev μ-loop : tie.MeasureT-loop
 μ-loop s at n m factors₀ count₀ next₀ r₀ c₀ factors count next r c = lib.ListN.length (lines (drop next s))
 
 loop-holds : tie.Need-loop-holds Inv-loop μ-loop
-loop-holds c = let a = c .before .args in reads-start (a .n) (a .m) (drop (a .at) (a .s .now))
+loop-holds c = let a = c .before .args in (reads-start (a .n) (a .m) (drop (a .at) (a .s .now)), used-none (a .s .now) 0 (a .at))
 
 factor-at-requires : tie.Need-factor-at-requires Inv-loop μ-loop
-factor-at-requires c κs = c .loop .inv .width
+factor-at-requires c κs = c .loop .inv .0 .width
 
 -- the factor that the turn has read
 answers : (c : tie.After-factor-at Inv-loop μ-loop)
@@ -52,8 +53,8 @@ returns c =
     let l = f .before in
     let a = l .before .before .args in
     let e = not-taken _ _ (f .factor-at .result) (answers f) (not-true (f .factor-at .result .ok) (c .if1 .taken)) in
-    let d = ends 2 (isFactor (a .n) (a .m)) (up (a .n) (a .m)) (cell 2) (l .loop .count) (place (a .m) (l .loop .r) (l .loop .c)) [] (drop (l .loop .next) (a .s .now)) _ _ _ (l .loop .inv .lines) e in
-    (d .count, (stored (a .n) (a .m) (l .loop .count) (l .loop .r) (l .loop .c) (l .loop .factors) (drop (l .loop .next) (a .s .now)) _ _ _ (l .loop .inv) e, d .rest))
+    let d = ends 2 (isFactor (a .n) (a .m)) (up (a .n) (a .m)) (cell 2) (l .loop .count) (place (a .m) (l .loop .r) (l .loop .c)) [] (drop (l .loop .next) (a .s .now)) _ _ _ (l .loop .inv .0 .lines) e in
+    (d .count, (stored (a .n) (a .m) (l .loop .count) (l .loop .r) (l .loop .c) (l .loop .factors) (drop (l .loop .next) (a .s .now)) _ _ _ (l .loop .inv .0) e, (d .rest, used-count (l .loop .inv .1))))
 
 mul-factors : tie.Need-mul-factors Inv-loop μ-loop
 mul-factors c = omega arith
@@ -87,7 +88,7 @@ inside c =
 
 turn : (c : tie.Joined2 Inv-loop μ-loop)
     → let f = reads c in let l = f .before .loop in let a = f .before .before .before .args in
-    Goes (a .n) (a .m) (l .count) (l .r) (l .c) (l .factors) (drop (l .next) (a .s .now)) (length (factorRows (a .n) (a .m) (lines (drop (a .at) (a .s .now))))) (whole (a .s .now) (a .at) (a .n) (a .m)) (lines (drop (a .at) (a .s .now))) (l .inv)
+    Goes (a .n) (a .m) (l .count) (l .r) (l .c) (l .factors) (drop (l .next) (a .s .now)) (length (factorRows (a .n) (a .m) (lines (drop (a .at) (a .s .now))))) (whole (a .s .now) (a .at) (a .n) (a .m)) (lines (drop (a .at) (a .s .now))) (l .inv .0)
     (f .factor-at .result .resource) (f .factor-at .result .constraint + 1) (c .if2 .factors) (drop (f .factor-at .result .next) (a .s .now))
 turn c =
     let f = reads c in
@@ -95,10 +96,10 @@ turn c =
     let a = l .before .before .args in
     let k = found c in
     let cell-is = ap (λ (i : ℕ). set (l .loop .factors) i (f .factor-at .result .value)) (k .place) ∙ ap (set (l .loop .factors) (factorCell (natOf (cell 0 (k .x))) (natOf (cell 1 (k .x))))) (k .value) in
-    goes (a .n) (a .m) (l .loop .count) (l .loop .r) (l .loop .c) (l .loop .factors) (drop (l .loop .next) (a .s .now)) _ _ _ (l .loop .inv) (k .x) (k .is)
+    goes (a .n) (a .m) (l .loop .count) (l .loop .r) (l .loop .c) (l .loop .factors) (drop (l .loop .next) (a .s .now)) _ _ _ (l .loop .inv .0) (k .x) (k .is)
     (f .factor-at .result .resource) (f .factor-at .result .constraint + 1) (k .resource) (ap (λ (i : ℕ). i + 1) (k .constraint)) (inside c) (c .if2 .factors)
     (⊎-elim (λ w. w .1 ∙ ap (set (l .loop .factors) (f .factor-at .result .cell)) (came (f .factor-at .result .value) (c .before .before .before .struct-told .given .1 .1 .1 .1 .0 .1)) ∙ cell-is)
-    (λ w. w .1 ∙ sym (set-out (l .loop .factors) (f .factor-at .result .cell) (f .factor-at .result .value) (omega (arith, w .0 .left, l .loop .inv .long))) ∙ cell-is) (c .if2 .came))
+    (λ w. w .1 ∙ sym (set-out (l .loop .factors) (f .factor-at .result .cell) (f .factor-at .result .value) (omega (arith, w .0 .left, l .loop .inv .0 .long))) ∙ cell-is) (c .if2 .came))
     (drop (f .factor-at .result .next) (a .s .now))
     (ap (λ (n : ℕ). drop n (a .s .now)) (k .after) ∙ sym (drop-drop (length (line (drop (l .loop .next) (a .s .now)))) (l .loop .next) (a .s .now)))
 
@@ -116,7 +117,7 @@ loop-less : tie.Need-loop-less Inv-loop μ-loop
 loop-less c = turn (c .before) .fewer
 
 loop-again : tie.Need-loop-again Inv-loop μ-loop
-loop-again c = turn (c .before) .again
+loop-again c = (turn (c .before) .again, used-next (reads (c .before) .before .loop .inv .1) (found (c .before) .after))
 
 pub factors-at-spec : {M : Type 1} → statement M
 factors-at-spec =

@@ -1,5 +1,5 @@
 -- `read_interval::interval_at` meets its contract. Assumes nothing.
-use Prim.Native.Nat.{ℕ, _+_, _≤_, min}
+use Prim.Native.Nat.{ℕ, _+_, _-_, _≤_, min}
 use native.Mathlib.Omega.{arith}
 use borrow.Author.Needs.{needs}
 use mathlib.Core.Path.{_≡_, refl, sym, ap, _∙_}
@@ -9,11 +9,13 @@ use lib.IntN.{pos}
 use Rattle.rules_number.proofs.Kit.{came}
 use Rattle.rules_interval.specs.declared.Interval.{Interval}
 use Rattle.rules_text.specs.Numbers.{Row, lines}
-use Rattle.rules_text.specs.Tables.{found, headed, counting, counted, rows}
-use Rattle.rules_parts.specs.Parts.{factorRows, withFactors, intervalOf, readInterval}
+use Rattle.rules_text.specs.Tables.{found, headed, due, counting, counted, rows}
+use Rattle.rules_text.specs.Offsets.{bytesOf}
+use Rattle.rules_parts.specs.Parts.{factorRows, withFactors, parameterOf, intervalOf, readInterval}
 use Rattle.read_interval.specs.declared.IntervalRead.{IntervalRead}
-use Rattle.read_interval.proofs.ReadLaws.{refuses, refuses-after, alone}
+use Rattle.read_interval.proofs.ReadLaws.{refuses, refuses-after, read-used, alone, alone-next}
 use Rattle.rules_text.proofs.StageLaws.{Stage, text-few}
+use Rattle.rules_text.proofs.UsedLaws.{Used, used-names, used-then, rises-due}
 use Rattle.read_interval.proofs.IntervalLaws.{constraint-stage, output-stage, factor-stage, unnamed-one, unnamed-two, unnamed-three, unnamed-four, no-parameter, whole}
 use Rattle.rules_parts.proofs.IntervalStages.{by-fields}
 use Rattle.read_interval.proofs.interval_at.Statement.{statement}
@@ -52,7 +54,7 @@ rows1 k = counting 2 (lines (drop (past1 k) (text (start1 k))))
 one : (k : tie.After-constraints-at) → Stage (headed "constraint shadow\n" (counted 2)) (text (start1 k)) (before (start1 k)) (offset (start1 k)) (rows1 k) (lines1 k) (k .constraints-at .result .next)
 one k =
     constraint-stage (text (start1 k)) (before (start1 k)) (offset (start1 k)) (past1 k) (k .constraints-at .result .count) (k .constraints-at .result .next)
-    (sym (k .before .before .at .given .1) ∙ k .before .before .before .before .line-is .ensures) (k .constraints-at .ensures .0) (k .constraints-at .ensures .1 .1)
+    (sym (k .before .before .at .given .1) ∙ k .before .before .before .before .line-is .ensures) (k .constraints-at .ensures .0) (k .constraints-at .ensures .1 .1 .1)
 
 -- ---- the interval's resources
 abbrev first : tie.After-outputs-at → tie.After-constraints-at
@@ -73,7 +75,7 @@ rows2 k = counting 5 (lines (drop (past2 k) (text (start2 k))))
 two : (k : tie.After-outputs-at) → Stage (headed "resource lmp dispatch available floor\n" (counted 5)) (text (start2 k)) (lines1 (first k)) (first k .constraints-at .result .next) (rows2 k) (lines2 k) (k .outputs-at .result .next)
 two k =
     output-stage (text (start2 k)) (lines1 (first k)) (first k .constraints-at .result .next) (past2 k) (k .outputs-at .result .count) (k .outputs-at .result .next)
-    (sym (k .before .before .at2 .given .1) ∙ k .before .before .before .before .line-is2 .ensures) (k .outputs-at .ensures .0) (k .outputs-at .ensures .1 .1 .1 .1 .1)
+    (sym (k .before .before .at2 .given .1) ∙ k .before .before .before .before .line-is2 .ensures) (k .outputs-at .ensures .0) (k .outputs-at .ensures .1 .1 .1 .1 .1 .1)
 
 -- ---- the factors
 abbrev second : tie.After-factors-at → tie.After-outputs-at
@@ -102,7 +104,7 @@ three : (k : tie.After-factors-at)
 three k =
     factor-stage (text (start3 k)) (lines2 (second k)) (second k .outputs-at .result .next) (past3 k) (k .factors-at .result .count) (k .factors-at .result .next)
     (length (rows2 (second k))) (length (rows1 (first (second k)))) (sym (k .before .before .at3 .given .1) ∙ k .before .before .before .before .line-is3 .ensures)
-    (k .factors-at .ensures .0 ∙ ap length (rows-are k)) (k .factors-at .ensures .1 .1)
+    (k .factors-at .ensures .0 ∙ ap length (rows-are k)) (k .factors-at .ensures .1 .1 .1)
 
 -- ---- the lines read are no more than the bytes of the text
 small1 : (k : tie.After-constraints-at) → lines1 k ≤ 65536 + length (text (start1 k))
@@ -151,7 +153,7 @@ returns c =
     let a = begun l in (
       refuses-after (text a) (c .no-interval .result .fault) (before a) (c .no-interval .result .interval) (c .no-interval .result .line) (c .no-interval .result .next) (ap (λ (x : IntervalRead). x .fault) (c .no-interval .ensures))
           ∙ sym (unnamed-one (text a) (before a) (offset a) (sym (c .before .enum-told .given .1) ∙ l .line-is .ensures)) ∙ whole-part a,
-      alone (c .no-interval .result) (before a + 1) (c .no-interval .ensures),
+      (alone (c .no-interval .result) (before a + 1) (c .no-interval .ensures), alone-next (c .no-interval .result) (before a + 1) (c .no-interval .ensures) (λ z. omega arith) (offset a) _ (lines (drop (offset a) (text a)))),
     )
 
 constraints-at-requires : tie.Need-constraints-at-requires
@@ -188,7 +190,7 @@ returns-2 c =
     let a = start1 k in (
       refuses-after (text a) (c .no-interval2 .result .fault) (lines1 k) (c .no-interval2 .result .interval) (c .no-interval2 .result .line) (c .no-interval2 .result .next) (ap (λ (x : IntervalRead). x .fault) (c .no-interval2 .ensures))
           ∙ sym (unnamed-two (text a) (before a) (offset a) (rows1 k) (lines1 k) (k .constraints-at .result .next) (one k) (sym (c .before .enum-told2 .given .1) ∙ l .line-is2 .ensures)) ∙ whole-part a,
-      alone (c .no-interval2 .result) (lines1 k + 1) (c .no-interval2 .ensures),
+      (alone (c .no-interval2 .result) (lines1 k + 1) (c .no-interval2 .ensures), alone-next (c .no-interval2 .result) (lines1 k + 1) (c .no-interval2 .ensures) (λ z. omega arith) (offset a) _ (lines (drop (offset a) (text a)))),
     )
 
 outputs-at-requires : tie.Need-outputs-at-requires
@@ -227,7 +229,7 @@ returns-3 c =
       refuses-after (text a) (c .no-interval3 .result .fault) (lines2 k) (c .no-interval3 .result .interval) (c .no-interval3 .result .line) (c .no-interval3 .result .next) (ap (λ (x : IntervalRead). x .fault) (c .no-interval3 .ensures))
           ∙ sym (unnamed-three (text a) (before a) (offset a) (rows1 j) (lines1 j) (j .constraints-at .result .next) (one j) (rows2 k) (lines2 k) (k .outputs-at .result .next) (two k)
           (sym (c .before .enum-told3 .given .1) ∙ l .line-is3 .ensures)) ∙ whole-part a,
-      alone (c .no-interval3 .result) (lines2 k + 1) (c .no-interval3 .ensures),
+      (alone (c .no-interval3 .result) (lines2 k + 1) (c .no-interval3 .ensures), alone-next (c .no-interval3 .result) (lines2 k + 1) (c .no-interval3 .ensures) (λ z. omega arith) (offset a) _ (lines (drop (offset a) (text a)))),
     )
 
 factors-at-requires : tie.Need-factors-at-requires
@@ -267,11 +269,24 @@ returns-4 c =
       refuses-after (text a) (c .no-interval4 .result .fault) (lines3 k) (c .no-interval4 .result .interval) (c .no-interval4 .result .line) (c .no-interval4 .result .next) (ap (λ (x : IntervalRead). x .fault) (c .no-interval4 .ensures))
           ∙ sym (unnamed-four (text a) (before a) (offset a) (rows1 j) (lines1 j) (j .constraints-at .result .next) (one j) (rows2 i) (lines2 i) (i .outputs-at .result .next) (two i)
           (rows3 k) (lines3 k) (k .factors-at .result .next) (three k) (sym (c .before .enum-told4 .given .1) ∙ l .line-is4 .ensures)) ∙ whole-part a,
-      alone (c .no-interval4 .result) (lines3 k + 1) (c .no-interval4 .ensures),
+      (alone (c .no-interval4 .result) (lines3 k + 1) (c .no-interval4 .ensures), alone-next (c .no-interval4 .result) (lines3 k + 1) (c .no-interval4 .ensures) (λ z. omega arith) (offset a) _ (lines (drop (offset a) (text a)))),
     )
 
 abbrev third : tie.After-known-told4 → tie.After-factors-at
 third c = c .before .before .before .before .before .before
+
+-- with the parameter all lines of the part are used
+used4 : (p : tie.After-parameter-at) → p .parameter-at .result .fault ≡ 0
+    → let a = start3 (third (p .before)) in Used (text a) (before a) (offset a) (p .parameter-at .result .line) (p .parameter-at .result .next)
+used4 p z =
+    let q = p .before .before in
+    let k = third (p .before) in
+    let at = q .at4 .given .0 .0 in
+    let s = text (start3 k) in
+    let r = p .parameter-at .result in
+    used-then (used-then (used-then (one (first (second k)) .used) (two (second k) .used)) (three k .used))
+    (used-then (used-names "parameter\n" s (lines3 k) (k .factors-at .result .next) refl at (sym (q .at4 .given .1) ∙ q .before .before .line-is4 .ensures))
+    (read-used s (lines3 k + 1) at (r .fault) (r .value) (r .line) (r .next) (due parameterOf (lines3 k + 1) (lines (drop at s))) (p .parameter-at .ensures .0) (rises-due parameterOf (lines3 k + 1) (lines (drop at s))) z (p .parameter-at .ensures .1)))
 
 add-parameter-at : tie.Need-add-parameter-at
 add-parameter-at c = let h = small3 (third c) in omega (arith, start3 (third c) .before .before .good)
@@ -294,8 +309,8 @@ returns-5 c =
       refuses (text a) (c .no-interval5 .result .fault) (r .fault) (c .no-interval5 .result .interval) (c .no-interval5 .result .line) (c .no-interval5 .result .next) (ap (λ (x : IntervalRead). x .fault) (c .no-interval5 .ensures)) (c .before .if1 .taken)
           ∙ sym (no-parameter (text a) (before a) (offset a) (rows1 j) (lines1 j) (j .constraints-at .result .next) (one j) (rows2 i) (lines2 i) (i .outputs-at .result .next) (two i)
           (rows3 k) (lines3 k) (k .factors-at .result .next) (three k) (q .at4 .given .0 .0) (sym (q .at4 .given .1) ∙ q .before .before .line-is4 .ensures)
-          (r .fault) (r .value) (r .line) (r .next) (p .parameter-at .ensures) (c .before .if1 .taken)) ∙ whole-part a,
-      alone (c .no-interval5 .result) (r .fault) (c .no-interval5 .ensures),
+          (r .fault) (r .value) (r .line) (r .next) (p .parameter-at .ensures .0) (c .before .if1 .taken)) ∙ whole-part a,
+      (alone (c .no-interval5 .result) (r .fault) (c .no-interval5 .ensures), alone-next (c .no-interval5 .result) (r .fault) (c .no-interval5 .ensures) (c .before .if1 .taken) (offset a) _ (lines (drop (offset a) (text a)))),
     )
 
 interval-of-requires : tie.Need-interval-of-requires
@@ -319,8 +334,8 @@ returns-6 c =
       ap (λ (x : Interval). found x (r .line) (lines (drop (r .next) (text a)))) v
           ∙ sym (whole (text a) (before a) (offset a) (rows1 j) (lines1 j) (j .constraints-at .result .next) (one j) (rows2 i) (lines2 i) (i .outputs-at .result .next) (two i)
           (rows3 k) (lines3 k) (k .factors-at .result .next) (three k) (q .at4 .given .0 .0) (sym (q .at4 .given .1) ∙ q .before .before .line-is4 .ensures)
-          (r .fault) (r .value) (r .line) (r .next) (p .parameter-at .ensures) (c .before .before .if1 .left)) ∙ whole-part a,
-      refl,
+          (r .fault) (r .value) (r .line) (r .next) (p .parameter-at .ensures .0) (c .before .before .if1 .left)) ∙ whole-part a,
+      (refl, used4 p (c .before .before .if1 .left) .offset ∙ ap (λ (n : ℕ). offset a + bytesOf (r .line - n) (lines (drop (offset a) (text a)))) (a .at-most .ensures)),
     )
 
 pub interval-at-spec : {M : Type 1} → statement M

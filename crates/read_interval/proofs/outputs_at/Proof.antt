@@ -17,6 +17,7 @@ use Rattle.rules_text.specs.Offsets.{kept, asRow}
 use Rattle.rules_text.proofs.LineLaws.{line, lines-few}
 use Rattle.rules_text.proofs.RowLaws.{row-in, Held, held, not-held}
 use Rattle.rules_text.proofs.TableLaws.{Loop, room, ends, Turned, turns, kept-length}
+use Rattle.rules_text.proofs.UsedLaws.{Used, used-none, used-next, used-count}
 use Rattle.read_interval.proofs.outputs_at.Statement.{statement}
 use Rattle.read_interval.proofs.outputs_at.Tie as tie
 
@@ -35,7 +36,7 @@ Keeps j s at count a next = Loop 4 hasId up (cell j) count count a (drop next s)
 
 abbrev Inv-loop : tie.InvT-loop
 Inv-loop s at lmp₀ dispatch₀ available₀ floor₀ count₀ next₀ lmp dispatch available floor count next =
-    Keeps 1 s at count lmp next × Keeps 2 s at count dispatch next × Keeps 3 s at count available next × Keeps 4 s at count floor next
+    Keeps 1 s at count lmp next × Keeps 2 s at count dispatch next × Keeps 3 s at count available next × Keeps 4 s at count floor next × Used s 0 at count next
 
 abbrev μ-loop : tie.MeasureT-loop
 μ-loop s at lmp₀ dispatch₀ available₀ floor₀ count₀ next₀ lmp dispatch available floor count next = lib.ListN.length (lines (drop next s))
@@ -45,7 +46,7 @@ unfolding kept
 starts j s at = record { count = omega arith; stores = refl; rest = refl }
 
 loop-holds : tie.Need-loop-holds Inv-loop μ-loop
-loop-holds c = let a = c .before .args in (starts 1 (a .s .now) (a .at), starts 2 (a .s .now) (a .at), starts 3 (a .s .now) (a .at), starts 4 (a .s .now) (a .at))
+loop-holds c = let a = c .before .args in (starts 1 (a .s .now) (a .at), starts 2 (a .s .now) (a .at), starts 3 (a .s .now) (a .at), starts 4 (a .s .now) (a .at), used-none (a .s .now) 0 (a .at))
 
 id-row-at-requires : tie.Need-id-row-at-requires Inv-loop μ-loop
 id-row-at-requires c κs = search needs
@@ -72,7 +73,7 @@ returns c =
     let d2 = ends 4 hasId up (cell 2) (l .count) (l .count) (l .dispatch) (drop (next r) (text r)) _ _ _ (l .inv .1) e in
     let d3 = ends 4 hasId up (cell 3) (l .count) (l .count) (l .available) (drop (next r) (text r)) _ _ _ (l .inv .2) e in
     let d4 = ends 4 hasId up (cell 4) (l .count) (l .count) (l .floor) (drop (next r) (text r)) _ _ _ (l .inv .3) e in
-    (d1 .count, (d1 .stores, (d2 .stores, (d3 .stores, (d4 .stores, d1 .rest)))))
+    (d1 .count, (d1 .stores, (d2 .stores, (d3 .stores, (d4 .stores, (d1 .rest, used-count (l .inv .4)))))))
 
 array-copy-out-lmp : tie.Need-array-copy-out-lmp Inv-loop μ-loop
 array-copy-out-lmp c = search needs
@@ -173,7 +174,7 @@ loop-again : tie.Need-loop-again Inv-loop μ-loop
 loop-again c =
     let l = reads c .before .loop in
     let k = keeps c in
-    (turn c 1 (l .lmp) (c .if2 .lmp) (l .inv .0) (k .lmp) .again, turn c 2 (l .dispatch) (c .if2 .dispatch) (l .inv .1) (k .dispatch) .again, turn c 3 (l .available) (c .if2 .available) (l .inv .2) (k .available) .again, turn c 4 (l .floor) (c .if2 .floor) (l .inv .3) (k .floor) .again)
+    (turn c 1 (l .lmp) (c .if2 .lmp) (l .inv .0) (k .lmp) .again, turn c 2 (l .dispatch) (c .if2 .dispatch) (l .inv .1) (k .dispatch) .again, turn c 3 (l .available) (c .if2 .available) (l .inv .2) (k .available) .again, turn c 4 (l .floor) (c .if2 .floor) (l .inv .3) (k .floor) .again, used-next (l .inv .4) (there c .after))
 
 pub outputs-at-spec : {M : Type 1} → statement M
 outputs-at-spec =

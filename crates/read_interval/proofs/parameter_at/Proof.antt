@@ -7,6 +7,7 @@ use lib.IntN.{pos}
 use Rattle.rules_text.specs.Numbers.{lines}
 use Rattle.rules_text.specs.Tables.{found}
 use Rattle.rules_text.proofs.NameLaws.{not-headed, past-names}
+use Rattle.rules_text.proofs.UsedLaws.{used-names}
 use Rattle.read_interval.proofs.ReadLaws.{parameter-missing, parameter-there}
 use Rattle.read_interval.proofs.parameter_at.Statement.{statement}
 use Rattle.read_interval.proofs.parameter_at.Tie as tie
@@ -29,9 +30,11 @@ value-at-requires c κs = search needs
 returns : tie.Need-returns
 returns c =
     let l = c .before .before .before in
-    let a = l .before .before .before .args in
-    c .value-at .ensures
-    ∙ sym (parameter-there (a .n) (lines (drop (a .at) (a .s .now))) (a .n + 1) (not-headed "-\n" (found (pos 100)) (a .n) (a .s .now) (a .at) refl (sym (c .before .enum-told .given .1) ∙ l .line-is .ensures)))
+    let a = l .before .before .before .args in (
+      c .value-at .ensures .0
+          ∙ sym (parameter-there (a .n) (lines (drop (a .at) (a .s .now))) (a .n + 1) (not-headed "-\n" (found (pos 100)) (a .n) (a .s .now) (a .at) refl (sym (c .before .enum-told .given .1) ∙ l .line-is .ensures))),
+      c .value-at .ensures .1,
+    )
 
 add-t9 : tie.Need-add-t9
 add-t9 c = search needs
@@ -41,8 +44,11 @@ returns-2 c =
     let k = c .before in
     let l = k .before .before in
     let a = l .before .before .before .args in
-    sym (parameter-missing (a .n) (lines (drop (a .at) (a .s .now))) (a .n + 1) (lines (drop (k .next .given .0 .0) (a .s .now)))
-    (past-names "-\n" (found (pos 100)) (a .n) (a .s .now) (a .at) refl (k .next .given .0 .0) (sym (k .next .given .1) ∙ l .line-is .ensures)))
+    let e = sym (k .next .given .1) ∙ l .line-is .ensures in (
+      sym (parameter-missing (a .n) (lines (drop (a .at) (a .s .now))) (a .n + 1) (lines (drop (k .next .given .0 .0) (a .s .now)))
+          (past-names "-\n" (found (pos 100)) (a .n) (a .s .now) (a .at) refl (k .next .given .0 .0) e)),
+      used-names "-\n" (a .s .now) (a .n) (a .at) refl (k .next .given .0 .0) e .offset,
+    )
 
 pub parameter-at-spec : {M : Type 1} → statement M
 parameter-at-spec =

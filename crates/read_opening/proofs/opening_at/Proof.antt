@@ -1,5 +1,5 @@
 -- `read_opening::opening_at` meets its contract. Assumes nothing.
-use Prim.Native.Nat.{ℕ, _+_, _≤_, min}
+use Prim.Native.Nat.{ℕ, _+_, _-_, _≤_, min}
 use native.Mathlib.Omega.{arith}
 use borrow.Author.Needs.{needs}
 use mathlib.Core.Path.{_≡_, refl, sym, ap, _∙_}
@@ -12,15 +12,17 @@ use Rattle.rules_text.specs.Tables.{cell, headed, due, single, counting, counte
 use Rattle.rules_text.specs.Offsets.{asRow, namesAt}
 use Rattle.rules_text.specs.declared.Found.the-variants.{At}
 use Rattle.rules_parts.specs.Parts.{readOpening}
-use Rattle.read_opening.specs.Shown.{readRest}
+use Rattle.read_interval.specs.Shown.{nextIf}
+use Rattle.read_opening.specs.Shown.{readRest, shownOpening}
 use borrow.Author.Tests.{not-true, not-false}
 use Rattle.rules_text.proofs.LineLaws.{line}
 use Rattle.rules_text.proofs.RowLaws.{Held, row-in, held, not-held}
-use Rattle.read_interval.proofs.ReadLaws.{refuses-after}
+use Rattle.read_interval.proofs.ReadLaws.{refuses-after, read-on}
 use Rattle.read_opening.specs.declared.OpeningRead.{OpeningRead}
 use Rattle.rules_text.proofs.StageLaws.{Stage, text-few}
-use Rattle.read_opening.proofs.OpeningLaws.{alone}
-use Rattle.read_opening.proofs.RestLaws.{portfolio-stage, owner-stage, month-stage, unnamed-month, no-month, unnamed-portfolios, unnamed-owners, read-three, rest-same}
+use Rattle.rules_text.proofs.UsedLaws.{used-then}
+use Rattle.read_opening.proofs.OpeningLaws.{alone, alone-next}
+use Rattle.read_opening.proofs.RestLaws.{rises-rest, portfolio-stage, owner-stage, month-stage, unnamed-month, no-month, unnamed-portfolios, unnamed-owners, read-three, rest-same}
 use Rattle.read_opening.proofs.opening_at.Statement.{statement}
 use Rattle.read_opening.proofs.opening_at.Tie as tie
 
@@ -91,7 +93,7 @@ rows2 k = counting 2 (lines (drop (past2 k) (text (began (first k)))))
 two : (k : tie.After-portfolios-at) → Stage (headed "portfolio seller\n" (counted 2)) (text (began (first k))) (lines1 (first k)) (read (first k) .row-of .result .next) (rows2 k) (lines2 k) (k .portfolios-at .result .next)
 two k =
     portfolio-stage (text (began (first k))) (lines1 (first k)) (read (first k) .row-of .result .next) (past2 k) (k .portfolios-at .result .count) (k .portfolios-at .result .next)
-    (sym (k .before .before .at2 .given .1) ∙ k .before .before .before .before .line-is2 .ensures) (k .portfolios-at .ensures .0) (k .portfolios-at .ensures .1 .1)
+    (sym (k .before .before .at2 .given .1) ∙ k .before .before .before .before .line-is2 .ensures) (k .portfolios-at .ensures .0) (k .portfolios-at .ensures .1 .1 .1)
 
 small2 : (k : tie.After-portfolios-at) → lines2 k ≤ 65536 + length (text (began (first k)))
 small2 k =
@@ -118,7 +120,7 @@ rows3 k = counting 3 (lines (drop (past3 k) (text (start3 k))))
 three : (k : tie.After-owners-at) → Stage (headed "resource portfolio start\n" (counted 3)) (text (start3 k)) (lines2 (second k)) (second k .portfolios-at .result .next) (rows3 k) (lines3 k) (k .owners-at .result .next)
 three k =
     owner-stage (text (start3 k)) (lines2 (second k)) (second k .portfolios-at .result .next) (past3 k) (k .owners-at .result .count) (k .owners-at .result .next)
-    (sym (k .before .before .at3 .given .1) ∙ k .before .before .before .before .line-is3 .ensures) (k .owners-at .ensures .0) (k .owners-at .ensures .1 .1 .1)
+    (sym (k .before .before .at3 .given .1) ∙ k .before .before .before .before .line-is3 .ensures) (k .owners-at .ensures .0) (k .owners-at .ensures .1 .1 .1 .1)
 
 small3 : (k : tie.After-owners-at) → lines3 k + length (lines (drop (k .owners-at .result .next) (text (start3 k)))) ≤ 65536 + length (text (start3 k))
 small3 k =
@@ -155,7 +157,7 @@ returns c =
     let r = c .no-opening .result in (
       refuses-after (text a) (r .fault) (before a) (r .opening) (r .line) (r .next) (ap (λ (x : OpeningRead). x .fault) (c .no-opening .ensures))
           ∙ sym (unnamed-month (text a) (before a) (offset a) (sym (c .before .enum-told .given .1) ∙ l .line-is .ensures)) ∙ whole-part a,
-      alone r (before a + 1) (c .no-opening .ensures),
+      (alone r (before a + 1) (c .no-opening .ensures), alone-next r (before a + 1) (c .no-opening .ensures) (λ z. omega arith) (offset a) _ (lines (drop (offset a) (text a)))),
     )
 
 add-line : tie.Need-add-line
@@ -177,7 +179,7 @@ returns-2 c =
     let r = c .no-opening2 .result in (
       refuses-after (text a) (r .fault) (before a + 1) (r .opening) (r .line) (r .next) (ap (λ (x : OpeningRead). x .fault) (c .no-opening2 .ensures))
           ∙ sym (no-month (text a) (before a) (offset a) (past1 (k .before)) (named1 (k .before)) (not-held _ _ (k .row-of .result) (answers k) (not-true (k .row-of .result .ok) (c .before .if1 .taken)))) ∙ whole-part a,
-      alone r (before a + 1 + 1) (c .no-opening2 .ensures),
+      (alone r (before a + 1 + 1) (c .no-opening2 .ensures), alone-next r (before a + 1 + 1) (c .no-opening2 .ensures) (λ z. omega arith) (offset a) _ (lines (drop (offset a) (text a)))),
     )
 
 add-line-2 : tie.Need-add-line-2
@@ -212,7 +214,7 @@ returns-3 c =
     let r = c .no-opening3 .result in (
       refuses-after (text a) (r .fault) (lines1 i) (r .opening) (r .line) (r .next) (ap (λ (x : OpeningRead). x .fault) (c .no-opening3 .ensures))
           ∙ sym (unnamed-portfolios (text a) (before a) (offset a) (cell 0 (holds i .x)) (lines1 i) (read i .row-of .result .next) (one i) (sym (c .before .enum-told2 .given .1) ∙ l .line-is2 .ensures)) ∙ whole-part a,
-      alone r (lines1 i + 1) (c .no-opening3 .ensures),
+      (alone r (lines1 i + 1) (c .no-opening3 .ensures), alone-next r (lines1 i + 1) (c .no-opening3 .ensures) (λ z. omega arith) (offset a) _ (lines (drop (offset a) (text a)))),
     )
 
 portfolios-at-requires : tie.Need-portfolios-at-requires
@@ -255,7 +257,7 @@ returns-4 c =
       refuses-after (text a) (r .fault) (lines2 k) (r .opening) (r .line) (r .next) (ap (λ (x : OpeningRead). x .fault) (c .no-opening4 .ensures))
           ∙ sym (unnamed-owners (text a) (before a) (offset a) (cell 0 (holds i .x)) (lines1 i) (read i .row-of .result .next) (one i) (rows2 k) (lines2 k) (k .portfolios-at .result .next) (two k)
           (sym (c .before .enum-told3 .given .1) ∙ l .line-is3 .ensures)) ∙ whole-part a,
-      alone r (lines2 k + 1) (c .no-opening4 .ensures),
+      (alone r (lines2 k + 1) (c .no-opening4 .ensures), alone-next r (lines2 k + 1) (c .no-opening4 .ensures) (λ z. omega arith) (offset a) _ (lines (drop (offset a) (text a)))),
     )
 
 owners-at-requires : tie.Need-owners-at-requires
@@ -283,12 +285,20 @@ returns-5 c =
     let m = cell 0 (holds i .x) in
     let v = read i .row-of .result .v in
     let p = j .portfolios-at in
-    let o = k .owners-at in (
-      c .rest-at .ensures .0
-          ∙ ap (λ (z : ℤ). readRest z (p .result) (o .result) (lines3 k) (lines (drop (o .result .next) (text a)))) (came (getD v 0 (pos 0)) (t .rest-at-arg .given) ∙ holds i .cells 0 (omega arith))
-          ∙ rest-same m (rows2 j) (rows3 k) (p .result) (o .result) (p .ensures .0) (p .ensures .1 .0) (o .ensures .0) (o .ensures .1 .0) (o .ensures .1 .1 .0) (lines3 k) (lines (drop (o .result .next) (text a)))
+    let o = k .owners-at in
+    let g = c .rest-at .result in
+    let ls = lines (drop (o .result .next) (text a)) in
+    let e : shownOpening (text a) g ≡ readRest m (p .result) (o .result) (lines3 k) ls =
+    c .rest-at .ensures .0 ∙ ap (λ (z : ℤ). readRest z (p .result) (o .result) (lines3 k) ls) (came (getD v 0 (pos 0)) (t .rest-at-arg .given) ∙ holds i .cells 0 (omega arith)) in (
+      e
+          ∙ rest-same m (rows2 j) (rows3 k) (p .result) (o .result) (p .ensures .0) (p .ensures .1 .0) (o .ensures .0) (o .ensures .1 .0) (o .ensures .1 .1 .0) (lines3 k) ls
           ∙ sym (read-three (text a) (before a) (offset a) m (lines1 i) (read i .row-of .result .next) (one i) (rows2 j) (lines2 j) (p .result .next) (two j) (rows3 k) (lines3 k) (o .result .next) (three k)) ∙ whole-part a,
-      c .rest-at .ensures .1,
+      (
+        c .rest-at .ensures .1 .0,
+        read-on (used-then (used-then (one i .used) (two j .used)) (three k .used)) (g .fault) (g .opening) (g .line) (g .next) (readRest m (p .result) (o .result) (lines3 k) ls) e
+            (rises-rest m (p .result) (o .result) (lines3 k) ls) (c .rest-at .ensures .1 .1)
+            ∙ ap (λ (n : ℕ). nextIf (g .fault) (offset a) (g .line - n) (lines (drop (offset a) (text a)))) (a .at-most .ensures),
+      ),
     )
 
 pub opening-at-spec : {M : Type 1} → statement M

@@ -3,21 +3,23 @@ use Prim.Native.Nat.{ℕ, _+_, _≤_}
 use native.Mathlib.Omega.{arith}
 use borrow.Author.Needs.{needs}
 use mathlib.Core.Path.{_≡_, refl, sym, ap, _∙_}
-use mathlib.Core.List.{List}
+use mathlib.Core.List.{List, []}
 use lib.ListN.{length, drop}
-use lib.IntN.{ℤ}
+use lib.IntN.{ℤ, pos}
 use Rattle.rules_number.proofs.Kit.{came}
 use Rattle.rules_opening.specs.declared.Opening.{Opening}
 use Rattle.rules_text.specs.Numbers.{bytes, lines}
-use Rattle.rules_text.specs.Tables.{found}
+use Rattle.rules_text.specs.Tables.{found, grouped, pairs, each}
 use Rattle.rules_text.specs.Offsets.{namesAt}
 use Rattle.rules_text.specs.declared.Found.the-variants.{At}
-use Rattle.read_opening.specs.Shown.{openingFrom}
-use Rattle.read_interval.proofs.ReadLaws.{refuses, refuses-after}
+use Rattle.rules_parts.specs.Parts.{bidOf, costsOf}
+use Rattle.read_opening.specs.Shown.{keeping, openingFrom}
+use Rattle.read_interval.proofs.ReadLaws.{refuses, refuses-after, read-used}
 use Rattle.read_opening.specs.declared.OpeningRead.{OpeningRead}
 use Rattle.rules_text.proofs.StageLaws.{names-few}
-use Rattle.read_opening.proofs.OpeningLaws.{alone}
-use Rattle.read_opening.proofs.RestLaws.{unnamed-steps, unnamed-points, unnamed-costs, no-costs, rest-whole}
+use Rattle.rules_text.proofs.UsedLaws.{Used, used-names, used-then, rises-each, rises-grouped}
+use Rattle.read_opening.proofs.OpeningLaws.{alone, alone-next}
+use Rattle.read_opening.proofs.RestLaws.{rises-keeping, unnamed-steps, unnamed-points, unnamed-costs, no-costs, rest-whole}
 use Rattle.read_opening.proofs.rest_at.Statement.{statement}
 use Rattle.read_opening.proofs.rest_at.Tie as tie
 
@@ -54,7 +56,7 @@ named2 : (k : tie.After-known-told2) → At (past2 k) ≡ namesAt (text (start2 
 named2 k = sym (k .before .at2 .given .1) ∙ k .before .before .before .line-is2 .ensures
 
 small2 : (k : tie.After-bids-at) → k .bids-at .result .line + length (lines (drop (k .bids-at .result .next) (text (start1 (k .before))))) ≤ 66000 + length (text (start1 (k .before)))
-small2 k = let f = small1 (k .before) in let g = k .bids-at .ensures .1 in omega arith
+small2 k = let f = small1 (k .before) in let g = k .bids-at .ensures .1 .0 in omega arith
 
 -- ---- the costs
 abbrev second : tie.After-known-told3 → tie.After-points-at
@@ -76,8 +78,48 @@ small3 : (k : tie.After-points-at) → k .points-at .result .line + length (line
 small3 k =
     let f = small2 (first (heated k)) in
     let g = names-few "resource mw heat\n" (text (start2 (heated k))) (first (heated k) .bids-at .result .next) refl (past2 (heated k)) (named2 (heated k)) in
-    let h = k .points-at .ensures .1 in
+    let h = k .points-at .ensures .1 .0 in
     omega arith
+
+-- ---- the lines that are used, up to each table's last
+used1 : (k : tie.After-bids-at) → let b = start1 (k .before) in Used (text b) (b .args .n) (b .args .at) (k .bids-at .result .line) (k .bids-at .result .next)
+used1 k =
+    let b = start1 (k .before) in
+    let n = b .args .n in
+    let q = past1 (k .before) in
+    let g = k .bids-at in
+    let r = grouped pairs (b .args .owners .count) 0 (n + 1) (lines (drop q (text b))) in
+    used-then (used-names "resource end price\n" (text b) n (b .args .at) refl q (named1 (k .before)))
+    (record {
+      up = rises-keeping (bidOf (pos 0) []) (bidOf (pos 0)) (n + 1) r (rises-grouped pairs (b .args .owners .count) 0 (n + 1) (lines (drop q (text b)))) (g .result .bids) (g .result .line) (lines (drop (g .result .next) (text b))) (sym (g .ensures .0));
+      offset = g .ensures .1 .1;
+    })
+
+used2 : (k : tie.After-points-at) → let b = start2 (heated k) in Used (text b) (b .args .n) (b .args .at) (k .points-at .result .line) (k .points-at .result .next)
+used2 k =
+    let t = heated k in
+    let b = start2 t in
+    let j = first t .bids-at .result in
+    let q = past2 t in
+    let g = k .points-at in
+    let r = grouped pairs (b .args .owners .count) 0 (j .line + 1) (lines (drop q (text b))) in
+    used-then (used-then (used1 (first t)) (used-names "resource mw heat\n" (text b) (j .line) (j .next) refl q (named2 t)))
+    (record {
+      up = rises-keeping (costsOf [] []) (λ xs. costsOf xs []) (j .line + 1) r (rises-grouped pairs (b .args .owners .count) 0 (j .line + 1) (lines (drop q (text b)))) (g .result .costs) (g .result .line) (lines (drop (g .result .next) (text b))) (sym (g .ensures .0));
+      offset = g .ensures .1 .1;
+    })
+
+used3 : (k : tie.After-costs-at) → k .costs-at .result .fault ≡ 0 → let b = start3 (k .before .before) in Used (text b) (b .args .n) (b .args .at) (k .costs-at .result .line) (k .costs-at .result .next)
+used3 k z =
+    let u = k .before .before in
+    let b = start3 u in
+    let j = second u .points-at .result in
+    let q = past3 u in
+    let g = k .costs-at in
+    let r = each 8 (b .args .owners .count) 0 (j .line + 1) (lines (drop q (text b))) in
+    used-then (used-then (used2 (second u)) (used-names "resource gas rate allowance om msc soc fee\n" (text b) (j .line) (j .next) refl q (named3 u)))
+    (read-used (text b) (j .line + 1) q (g .result .fault) (g .result .costs) (g .result .line) (g .result .next) (keeping 64 (costsOf [] []) (costsOf []) r) (g .ensures .0)
+    (rises-keeping (costsOf [] []) (costsOf []) (j .line + 1) r (rises-each 8 (b .args .owners .count) 0 (j .line + 1) (lines (drop q (text b))))) z (g .ensures .1))
 
 -- ---- the needs
 slice-aggregate-line-is : tie.Need-slice-aggregate-line-is
@@ -106,7 +148,7 @@ returns c =
     let r = c .no-opening .result in (
       refuses-after (text b) (r .fault) (a .n) (r .opening) (r .line) (r .next) (ap (λ (x : OpeningRead). x .fault) (c .no-opening .ensures))
           ∙ sym (unnamed-steps (a .month) (a .portfolios) (a .owners) (text b) (a .n) (a .at) (sym (c .before .enum-told .given .1) ∙ l .line-is .ensures)),
-      alone r (a .n + 1) (c .no-opening .ensures),
+      (alone r (a .n + 1) (c .no-opening .ensures), alone-next r (a .n + 1) (c .no-opening .ensures) (λ z. omega arith) (a .at) _ (lines (drop (a .at) (text b)))),
     )
 
 add-bids-at : tie.Need-add-bids-at
@@ -147,7 +189,7 @@ returns-2 c =
       refuses-after (text b) (r .fault) (g .result .line) (r .opening) (r .line) (r .next) (ap (λ (x : OpeningRead). x .fault) (c .no-opening2 .ensures))
           ∙ sym (unnamed-points (a .month) (a .portfolios) (a .owners) (text b) (a .n) (a .at) (past1 (k .before)) (named1 (k .before)) (g .result .bids) (g .result .line) (g .result .next) (g .ensures .0)
           (sym (c .before .before .enum-told2 .given .1) ∙ l .line-is2 .ensures)),
-      alone r (g .result .line + 1) (c .no-opening2 .ensures),
+      (alone r (g .result .line + 1) (c .no-opening2 .ensures), alone-next r (g .result .line + 1) (c .no-opening2 .ensures) (λ z. omega arith) (a .at) _ (lines (drop (a .at) (text b)))),
     )
 
 add-points-at : tie.Need-add-points-at
@@ -195,7 +237,7 @@ returns-3 c =
       refuses-after (text b) (r .fault) (h .result .line) (r .opening) (r .line) (r .next) (ap (λ (x : OpeningRead). x .fault) (c .no-opening3 .ensures))
           ∙ sym (unnamed-costs (a .month) (a .portfolios) (a .owners) (text b) (a .n) (a .at) (past1 (j .before)) (named1 (j .before)) (g .result .bids) (g .result .line) (g .result .next) (g .ensures .0)
           (past2 t) (named2 t) (h .result .costs) (h .result .line) (h .result .next) (h .ensures .0) (sym (c .before .before .enum-told3 .given .1) ∙ l .line-is3 .ensures)),
-      alone r (h .result .line + 1) (c .no-opening3 .ensures),
+      (alone r (h .result .line + 1) (c .no-opening3 .ensures), alone-next r (h .result .line + 1) (c .no-opening3 .ensures) (λ z. omega arith) (a .at) _ (lines (drop (a .at) (text b)))),
     )
 
 add-costs-at : tie.Need-add-costs-at
@@ -227,8 +269,8 @@ returns-4 c =
       refuses (text b) (r .fault) (d .result .fault) (r .opening) (r .line) (r .next) (ap (λ (x : OpeningRead). x .fault) (c .no-opening4 .ensures)) (c .before .if1 .taken)
           ∙ sym (no-costs (a .month) (a .portfolios) (a .owners) (text b) (a .n) (a .at) (past1 (j .before)) (named1 (j .before)) (g .result .bids) (g .result .line) (g .result .next) (g .ensures .0)
           (past2 t) (named2 t) (h .result .costs) (h .result .line) (h .result .next) (h .ensures .0)
-          (past3 u) (named3 u) (d .result .fault) (d .result .costs) (d .result .line) (d .result .next) (d .ensures) (c .before .if1 .taken)),
-      alone r (d .result .fault) (c .no-opening4 .ensures),
+          (past3 u) (named3 u) (d .result .fault) (d .result .costs) (d .result .line) (d .result .next) (d .ensures .0) (c .before .if1 .taken)),
+      (alone r (d .result .fault) (c .no-opening4 .ensures), alone-next r (d .result .fault) (c .no-opening4 .ensures) (c .before .if1 .taken) (a .at) _ (lines (drop (a .at) (text b)))),
     )
 
 opening-of-requires : tie.Need-opening-of-requires
@@ -252,8 +294,8 @@ returns-5 c =
       ap (λ (x : Opening). found x (d .result .line) (lines (drop (d .result .next) (text b)))) o
           ∙ sym (rest-whole (a .month) (a .portfolios) (a .owners) (text b) (a .n) (a .at) (past1 (j .before)) (named1 (j .before)) (g .result .bids) (g .result .line) (g .result .next) (g .ensures .0)
           (past2 t) (named2 t) (h .result .costs) (h .result .line) (h .result .next) (h .ensures .0)
-          (past3 u) (named3 u) (d .result .fault) (d .result .costs) (d .result .line) (d .result .next) (d .ensures) (i .if1 .left)),
-      refl,
+          (past3 u) (named3 u) (d .result .fault) (d .result .costs) (d .result .line) (d .result .next) (d .ensures .0) (i .if1 .left)),
+      (refl, used3 p (i .if1 .left) .offset),
     )
 
 pub rest-at-spec : {M : Type 1} → statement M

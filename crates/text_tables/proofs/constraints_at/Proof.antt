@@ -15,8 +15,9 @@ use Rattle.rules_text.specs.Numbers.{Row, lines, row}
 use Rattle.rules_text.specs.Tables.{cell, hasId, ifSuits, counting}
 use Rattle.rules_text.specs.Offsets.{kept, asRow}
 use Rattle.rules_text.proofs.LineLaws.{line, lines-few}
-use Rattle.rules_text.proofs.RowLaws.{row-in, held, not-held}
+use Rattle.rules_text.proofs.RowLaws.{row-in, Held, held, not-held}
 use Rattle.rules_text.proofs.TableLaws.{Loop, room, ends, Turned, turns, kept-length}
+use Rattle.rules_text.proofs.UsedLaws.{Used, used-none, used-next, used-count}
 use Rattle.text_tables.proofs.constraints_at.Statement.{statement}
 use Rattle.text_tables.proofs.constraints_at.Tie as tie
 
@@ -31,14 +32,14 @@ prices s at = kept 32 (pos 0) (map (cell 1) (rows s at))
 
 abbrev Inv-loop : tie.InvT-loop
 Inv-loop s at shadow₀ count₀ next₀ shadow count next =
-    Loop 1 hasId up (cell 1) count count shadow (drop next s) (lib.ListN.length (rows s at)) (prices s at) (lines (drop at s))
+    Loop 1 hasId up (cell 1) count count shadow (drop next s) (lib.ListN.length (rows s at)) (prices s at) (lines (drop at s)) × Used s 0 at count next
 
 abbrev μ-loop : tie.MeasureT-loop
 μ-loop s at shadow₀ count₀ next₀ shadow count next = lib.ListN.length (lines (drop next s))
 
 loop-holds : tie.Need-loop-holds Inv-loop μ-loop
 unfolding kept
-loop-holds c = record { count = omega arith; stores = refl; rest = refl }
+loop-holds c = let a = c .before .args in (record { count = omega arith; stores = refl; rest = refl }, used-none (a .s .now) 0 (a .at))
 
 id-row-at-requires : tie.Need-id-row-at-requires Inv-loop μ-loop
 id-row-at-requires c κs = search needs
@@ -54,9 +55,9 @@ returns c =
     let r = c .before .before .before in
     let l = r .before in
     let a = l .before .before .args in
-    let d = ends 1 hasId up (cell 1) (l .loop .count) (l .loop .count) (l .loop .shadow) (drop (l .loop .next) (a .s .now)) _ _ _ (l .loop .inv)
+    let d = ends 1 hasId up (cell 1) (l .loop .count) (l .loop .count) (l .loop .shadow) (drop (l .loop .next) (a .s .now)) _ _ _ (l .loop .inv .0)
     (not-held _ _ (r .id-row-at .result) (answers r) (not-true (r .id-row-at .result .ok) (c .if1 .taken))) in
-    (d .count, (d .stores, d .rest))
+    (d .count, (d .stores, (d .rest, used-count (l .loop .inv .1))))
 
 array-copy-out-shadow : tie.Need-array-copy-out-shadow Inv-loop μ-loop
 array-copy-out-shadow c = search needs
@@ -76,17 +77,22 @@ text c = reads c .before .before .before .args .s .now
 abbrev start : tie.Joined2 Inv-loop μ-loop → ℕ
 start c = reads c .before .before .before .args .at
 
+there : (c : tie.Joined2 Inv-loop μ-loop)
+    → let r = reads c in let l = r .before .loop in
+    Held (l .next + length (line (drop (l .next) (text c)))) (ifSuits (hasId (l .count)) (row 2 (line (drop (l .next) (text c))))) (r .id-row-at .result)
+there c = let r = reads c in held _ _ (r .id-row-at .result) (answers r) (not-false (r .id-row-at .result .ok) (c .before .if1 .left))
+
 -- one row more
 turn : (c : tie.Joined2 Inv-loop μ-loop)
-    → Turned 1 hasId up (cell 1) (reads c .before .loop .count) (reads c .before .loop .count) (reads c .before .loop .shadow) (drop (reads c .before .loop .next) (text c)) (length (rows (text c) (start c))) (prices (text c) (start c)) (lines (drop (start c) (text c))) (reads c .before .loop .inv)
+    → Turned 1 hasId up (cell 1) (reads c .before .loop .count) (reads c .before .loop .count) (reads c .before .loop .shadow) (drop (reads c .before .loop .next) (text c)) (length (rows (text c) (start c))) (prices (text c) (start c)) (lines (drop (start c) (text c))) (reads c .before .loop .inv .0)
     (reads c .before .loop .count + 1) (c .if2 .shadow) (drop (reads c .id-row-at .result .next) (text c))
 turn c =
     let r = reads c in
     let l = r .before in
     let v = r .id-row-at .result .v in
-    let h = held _ _ (r .id-row-at .result) (answers r) (not-false (r .id-row-at .result .ok) (c .before .if1 .left)) in
-    let long = room 1 hasId up (cell 1) (l .loop .count) (l .loop .count) (l .loop .shadow) (drop (l .loop .next) (text c)) _ _ _ (l .loop .inv) ∙ kept-length 32 (pos 0) (map (cell 1) (rows (text c) (start c))) in
-    turns 1 hasId up (cell 1) (l .loop .count) (l .loop .count) (l .loop .shadow) (drop (l .loop .next) (text c)) _ _ _ (l .loop .inv) (h .x) (h .is)
+    let h = there c in
+    let long = room 1 hasId up (cell 1) (l .loop .count) (l .loop .count) (l .loop .shadow) (drop (l .loop .next) (text c)) _ _ _ (l .loop .inv .0) ∙ kept-length 32 (pos 0) (map (cell 1) (rows (text c) (start c))) in
+    turns 1 hasId up (cell 1) (l .loop .count) (l .loop .count) (l .loop .shadow) (drop (l .loop .next) (text c)) _ _ _ (l .loop .inv .0) (h .x) (h .is)
     (l .loop .count + 1) (sym (add-one (l .loop .count))) (c .if2 .shadow)
     (⊎-elim (λ w. w .2 ∙ ap (set (l .loop .shadow) (l .loop .count)) (came (getD v 1 (pos 0)) (w .1 .given) ∙ h .cells 1 (omega arith)))
     (λ w. w .1 ∙ sym (set-out (l .loop .shadow) (l .loop .count) (cell 1 (h .x)) (omega (arith, w .0 .left)))) (c .if2 .came))
@@ -104,7 +110,7 @@ loop-less : tie.Need-loop-less Inv-loop μ-loop
 loop-less c = turn c .fewer
 
 loop-again : tie.Need-loop-again Inv-loop μ-loop
-loop-again c = turn c .again
+loop-again c = (turn c .again, used-next (reads c .before .loop .inv .1) (there c .after))
 
 pub constraints-at-spec : {M : Type 1} → statement M
 constraints-at-spec =

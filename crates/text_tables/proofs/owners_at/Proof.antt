@@ -17,6 +17,7 @@ use Rattle.rules_text.specs.Offsets.{kept, asRow}
 use Rattle.rules_text.proofs.LineLaws.{line, lines-few}
 use Rattle.rules_text.proofs.RowLaws.{row-in, Held, held, not-held}
 use Rattle.rules_text.proofs.TableLaws.{Loop, room, ends, Turned, turns, kept-length}
+use Rattle.rules_text.proofs.UsedLaws.{Used, used-none, used-next, used-count}
 use Rattle.text_tables.proofs.owners_at.Statement.{statement}
 use Rattle.text_tables.proofs.owners_at.Tie as tie
 
@@ -34,7 +35,7 @@ abbrev Keeps : ℕ → List ℕ → ℕ → ℕ → List ℤ → ℕ → Type 0
 Keeps j s at count a next = Loop 2 hasId up (cell j) count count a (drop next s) (length (rows s at)) (column j s at) (lines (drop at s))
 
 abbrev Inv-loop : tie.InvT-loop
-Inv-loop s at portfolio₀ start₀ count₀ next₀ portfolio start count next = Keeps 1 s at count portfolio next × Keeps 2 s at count start next
+Inv-loop s at portfolio₀ start₀ count₀ next₀ portfolio start count next = Keeps 1 s at count portfolio next × Keeps 2 s at count start next × Used s 0 at count next
 
 abbrev μ-loop : tie.MeasureT-loop
 μ-loop s at portfolio₀ start₀ count₀ next₀ portfolio start count next = lib.ListN.length (lines (drop next s))
@@ -44,7 +45,7 @@ unfolding kept
 starts j s at = record { count = omega arith; stores = refl; rest = refl }
 
 loop-holds : tie.Need-loop-holds Inv-loop μ-loop
-loop-holds c = let a = c .before .args in (starts 1 (a .s .now) (a .at), starts 2 (a .s .now) (a .at))
+loop-holds c = let a = c .before .args in (starts 1 (a .s .now) (a .at), starts 2 (a .s .now) (a .at), used-none (a .s .now) 0 (a .at))
 
 id-row-at-requires : tie.Need-id-row-at-requires Inv-loop μ-loop
 id-row-at-requires c κs = search needs
@@ -69,7 +70,7 @@ returns c =
     let e = not-held _ _ (r .id-row-at .result) (answers r) (not-true (r .id-row-at .result .ok) (c .if1 .taken)) in
     let d1 = ends 2 hasId up (cell 1) (l .count) (l .count) (l .portfolio) (drop (next r) (text r)) _ _ _ (l .inv .0) e in
     let d2 = ends 2 hasId up (cell 2) (l .count) (l .count) (l .start) (drop (next r) (text r)) _ _ _ (l .inv .1) e in
-    (d1 .count, (d1 .stores, (d2 .stores, d1 .rest)))
+    (d1 .count, (d1 .stores, (d2 .stores, (d1 .rest, used-count (l .inv .2)))))
 
 array-copy-out-portfolio : tie.Need-array-copy-out-portfolio Inv-loop μ-loop
 array-copy-out-portfolio c = search needs
@@ -146,7 +147,7 @@ loop-again : tie.Need-loop-again Inv-loop μ-loop
 loop-again c =
     let l = reads c .before .loop in
     let k = keeps c in
-    (turn c 1 (l .portfolio) (c .if2 .portfolio) (l .inv .0) (k .portfolio) .again, turn c 2 (l .start) (c .if2 .start) (l .inv .1) (k .start) .again)
+    (turn c 1 (l .portfolio) (c .if2 .portfolio) (l .inv .0) (k .portfolio) .again, turn c 2 (l .start) (c .if2 .start) (l .inv .1) (k .start) .again, used-next (l .inv .2) (there c .after))
 
 pub owners-at-spec : {M : Type 1} → statement M
 owners-at-spec =

@@ -2,7 +2,7 @@
 use Prim.Native.Nat.{ℕ, _+_, _-_}
 use native.Mathlib.Omega.{arith}
 use borrow.Author.Needs.{needs}
-use mathlib.Core.Path.{_≡_, sym, ap, _∙_}
+use mathlib.Core.Path.{_≡_, refl, sym, ap, _∙_}
 use mathlib.Core.List.{List, []}
 use mathlib.Core.Logic.{⊎-elim}
 use lib.ListN.{length, drop, set}
@@ -14,6 +14,7 @@ use Rattle.rules_text.specs.Tables.{Reading, grouped, pairs}
 use Rattle.rules_text.specs.Offsets.{rowAt, threeOf}
 use Rattle.rules_parts.specs.Parts.{bidOf}
 use Rattle.read_opening.specs.Shown.{keeping}
+use Rattle.rules_text.proofs.UsedLaws.{Used, used-none, used-lines, used-then}
 use Rattle.read_opening.proofs.KeepLaws.{Grouping, grouping-start, grouping-end, grouping-turn, line-fits}
 use Rattle.read_opening.proofs.tables.bids_at.Statement.{statement}
 use Rattle.read_opening.proofs.tables.bids_at.Tie as tie
@@ -23,7 +24,7 @@ whole s at m n = keeping 64 (bidOf (pos 0) []) (bidOf (pos 0)) (grouped pairs m 
 
 abbrev Inv-loop : tie.InvT-loop
 Inv-loop s at m n bids₀ line₀ next₀ row₀ r₀ bids line next row r =
-    Grouping (bidOf (pos 0)) m r line bids (lines (drop next s)) (whole s at m n) (n + lib.ListN.length (lines (drop at s))) × row ≡ threeOf (rowAt s next 3)
+    Grouping (bidOf (pos 0)) m r line bids (lines (drop next s)) (whole s at m n) (n + lib.ListN.length (lines (drop at s))) × row ≡ threeOf (rowAt s next 3) × Used s n at line next
 
 abbrev μ-loop : tie.MeasureT-loop
 μ-loop s at m n bids₀ line₀ next₀ row₀ r₀ bids line next row r = m - r
@@ -37,7 +38,7 @@ three-at-requires c κs = search needs
 loop-holds : tie.Need-loop-holds Inv-loop μ-loop
 loop-holds c =
     let a = c .before .before .before .args in
-    (grouping-start (bidOf (pos 0)) (bidOf (pos 0) []) (c .before .no-bid .result) (a .m) (a .n) (lines (drop (a .at) (a .s .now))) (c .before .no-bid .ensures), c .three-at .ensures)
+    (grouping-start (bidOf (pos 0)) (bidOf (pos 0) []) (c .before .no-bid .result) (a .m) (a .n) (lines (drop (a .at) (a .s .now))) (c .before .no-bid .ensures), c .three-at .ensures, used-none (a .s .now) (a .n) (a .at))
 
 steps-of-requires : tie.Need-steps-of-requires Inv-loop μ-loop
 steps-of-requires c κs = c .before .loop .inv .1
@@ -70,7 +71,7 @@ add-line c =
     let l = loops j in
     let a = begun j in
     let k = line-fits (bidOf (pos 0)) (a .args .m) (l .loop .r) (l .loop .line) (l .loop .bids) (left j) (whole (a .args .s .now) (a .args .at) (a .args .m) (a .args .n)) (a .args .n + length (lines (drop (a .args .at) (a .args .s .now)))) (l .loop .inv .0)
-    (reads j .before .loop-test .taken) (reads j .steps-of .result .bid .count) (count-is j) (lines (drop (reads j .steps-of .result .next) (a .args .s .now))) (reads j .steps-of .ensures .1 .1) in
+    (reads j .before .loop-test .taken) (reads j .steps-of .result .bid .count) (count-is j) (lines (drop (reads j .steps-of .result .next) (a .args .s .now))) (reads j .steps-of .ensures .1 .1 .0) in
     let p = a .pre in
     omega (arith, a .good)
 
@@ -87,17 +88,18 @@ loop-again c =
     let a = begun j in
     let g = reads j .steps-of in (
       grouping-turn (bidOf (pos 0)) (a .args .m) (l .loop .r) (l .loop .line) (l .loop .bids) (left j) (whole (a .args .s .now) (a .args .at) (a .args .m) (a .args .n)) (a .args .n + length (lines (drop (a .args .at) (a .args .s .now)))) (l .loop .inv .0)
-          (reads j .before .loop-test .taken) (g .result .bid .count) (count-is j) (lines (drop (g .result .next) (a .args .s .now))) (g .ensures .1 .1) (j .if1 .bids)
+          (reads j .before .loop-test .taken) (g .result .bid .count) (count-is j) (lines (drop (g .result .next) (a .args .s .now))) (g .ensures .1 .1 .0) (j .if1 .bids)
           (⊎-elim (λ w. w .1 ∙ ap (set (l .loop .bids) (l .loop .r)) (g .ensures .0))
           (λ w. w .1 ∙ sym (set-out (l .loop .bids) (l .loop .r) (bidOf (pos 0) (pairs (l .loop .r) (left j))) (omega (arith, w .0 .left, l .loop .inv .0 .long)))) (j .if1 .came)),
       g .ensures .1 .0,
+      used-then (l .loop .inv .2) (used-lines (a .args .s .now) (l .loop .line) (l .loop .next) (g .result .bid .count) (g .result .next) (g .ensures .1 .1 .1) (l .loop .line + g .result .bid .count) refl),
     )
 
 returns : tie.Need-returns Inv-loop μ-loop
 returns c =
     let l = c .before in
     let a = l .before .before .before .before in
-    (grouping-end (bidOf (pos 0)) (a .args .m) (l .loop .r) (l .loop .line) (l .loop .bids) (lines (drop (l .loop .next) (a .args .s .now))) (whole (a .args .s .now) (a .args .at) (a .args .m) (a .args .n)) (a .args .n + length (lines (drop (a .args .at) (a .args .s .now)))) (l .loop .inv .0) (c .loop-test .left), l .loop .inv .0 .few)
+    (grouping-end (bidOf (pos 0)) (a .args .m) (l .loop .r) (l .loop .line) (l .loop .bids) (lines (drop (l .loop .next) (a .args .s .now))) (whole (a .args .s .now) (a .args .at) (a .args .m) (a .args .n)) (a .args .n + length (lines (drop (a .args .at) (a .args .s .now)))) (l .loop .inv .0) (c .loop-test .left), (l .loop .inv .0 .few, l .loop .inv .2 .offset))
 
 pub bids-at-spec : {M : Type 1} → statement M
 bids-at-spec =

@@ -16,7 +16,8 @@ use Rattle.rules_text.proofs.LineLaws.{line}
 use Rattle.rules_text.proofs.RowLaws.{row-in, Held, held, not-held}
 use Rattle.rules_parts.specs.Parts.{costsOf}
 use Rattle.read_opening.specs.Shown.{keeping}
-use Rattle.read_interval.proofs.ReadLaws.{refuses-after}
+use Rattle.rules_text.proofs.UsedLaws.{Used, used-none, used-next}
+use Rattle.read_interval.proofs.ReadLaws.{refuses-after, no-next}
 use Rattle.read_opening.proofs.KeepLaws.{Pricing, pricing-start, pricing-end, pricing-none, pricing-turn}
 use Rattle.read_resources.proofs.JoinedLaws.{prices-same}
 use Rattle.read_opening.proofs.tables.costs_at.Statement.{statement}
@@ -26,7 +27,7 @@ abbrev whole : List ℕ → ℕ → ℕ → ℕ → Reading (List Costs)
 whole s at m n = keeping 64 (costsOf [] []) (costsOf []) (each 8 m 0 n (lines (drop at s)))
 
 abbrev Inv-loop : tie.InvT-loop
-Inv-loop s at m n costs₀ line₀ next₀ r₀ costs line next r = Pricing (costsOf []) m r line costs (drop next s) (whole s at m n) (n + lib.ListN.length (lines (drop at s)))
+Inv-loop s at m n costs₀ line₀ next₀ r₀ costs line next r = Pricing (costsOf []) m r line costs (drop next s) (whole s at m n) (n + lib.ListN.length (lines (drop at s))) × Used s n at line next
 
 abbrev μ-loop : tie.MeasureT-loop
 μ-loop s at m n costs₀ line₀ next₀ r₀ costs line next r = m - r
@@ -37,7 +38,7 @@ no-costs-requires c κs = search needs
 loop-holds : tie.Need-loop-holds Inv-loop μ-loop
 loop-holds c =
     let a = c .before .before .args in
-    pricing-start (costsOf []) (costsOf [] []) (c .no-costs .result) (a .m) (a .n) (drop (a .at) (a .s .now)) (c .no-costs .ensures)
+    (pricing-start (costsOf []) (costsOf [] []) (c .no-costs .result) (a .m) (a .n) (drop (a .at) (a .s .now)) (c .no-costs .ensures), used-none (a .s .now) (a .n) (a .at))
 
 id-row-at-requires : tie.Need-id-row-at-requires Inv-loop μ-loop
 id-row-at-requires c κs = search needs
@@ -65,7 +66,7 @@ answers c = c .id-row-at .ensures ∙ row-in (ifSuits (hasId (loops c .loop .r))
 add-line : tie.Need-add-line Inv-loop μ-loop
 add-line c =
     let r = c .before in
-    let f = loops r .loop .inv .few in
+    let f = loops r .loop .inv .0 .few in
     let p = begun r .pre in
     omega (arith, begun r .good)
 
@@ -73,9 +74,12 @@ returns : tie.Need-returns Inv-loop μ-loop
 returns c =
     let r = c .before .before .before in
     let l = loops r .loop in
-    refuses-after (begun r .args .s .now) (l .line + 1) (l .line) (l .costs) 0 0 refl
-    ∙ pricing-none (costsOf []) (begun r .args .m) (l .r) (l .line) (l .costs) (left r) (all r) (limit r) (l .inv) (r .before .loop-test .taken)
-    (not-held (l .next + length (line (left r))) (ifSuits (hasId (l .r)) (row 8 (line (left r)))) (r .id-row-at .result) (answers r) (not-true (r .id-row-at .result .ok) (c .if1 .taken)))
+    let a = begun r .args in (
+      refuses-after (a .s .now) (l .line + 1) (l .line) (l .costs) 0 0 refl
+          ∙ pricing-none (costsOf []) (begun r .args .m) (l .r) (l .line) (l .costs) (left r) (all r) (limit r) (l .inv .0) (r .before .loop-test .taken)
+          (not-held (l .next + length (line (left r))) (ifSuits (hasId (l .r)) (row 8 (line (left r)))) (r .id-row-at .result) (answers r) (not-true (r .id-row-at .result .ok) (c .if1 .taken))),
+      no-next (l .line + 1) (a .at) (0 - a .n) (lines (drop (a .at) (a .s .now))) (λ z. omega arith),
+    )
 
 priced-requires : tie.Need-priced-requires Inv-loop μ-loop
 priced-requires c κs = search needs
@@ -104,18 +108,20 @@ loop-again : tie.Need-loop-again Inv-loop μ-loop
 loop-again c =
     let r = reads c in
     let l = loops r .loop in
-    let h = there c in
-    pricing-turn (costsOf []) (begun r .args .m) (l .r) (l .line) (l .costs) (left r) (all r) (limit r) (l .inv) (r .before .loop-test .taken) (h .x) (h .is) (c .if2 .costs)
-    (⊎-elim (λ w. w .1 ∙ ap (set (l .costs) (l .r)) (c .before .priced .ensures ∙ prices-same (r .id-row-at .result .v) (h .x) (h .cells)))
-    (λ w. w .1 ∙ sym (set-out (l .costs) (l .r) (costsOf [] (h .x)) (omega (arith, w .0 .left, l .inv .long)))) (c .if2 .came))
-    (drop (r .id-row-at .result .next) (begun r .args .s .now))
-    (ap (λ (n : ℕ). drop n (begun r .args .s .now)) (h .after) ∙ sym (drop-drop (length (line (left r))) (l .next) (begun r .args .s .now)))
+    let h = there c in (
+      pricing-turn (costsOf []) (begun r .args .m) (l .r) (l .line) (l .costs) (left r) (all r) (limit r) (l .inv .0) (r .before .loop-test .taken) (h .x) (h .is) (c .if2 .costs)
+          (⊎-elim (λ w. w .1 ∙ ap (set (l .costs) (l .r)) (c .before .priced .ensures ∙ prices-same (r .id-row-at .result .v) (h .x) (h .cells)))
+          (λ w. w .1 ∙ sym (set-out (l .costs) (l .r) (costsOf [] (h .x)) (omega (arith, w .0 .left, l .inv .0 .long)))) (c .if2 .came))
+          (drop (r .id-row-at .result .next) (begun r .args .s .now))
+          (ap (λ (n : ℕ). drop n (begun r .args .s .now)) (h .after) ∙ sym (drop-drop (length (line (left r))) (l .next) (begun r .args .s .now))),
+      used-next (l .inv .1) (h .after),
+    )
 
 returns-2 : tie.Need-returns-2 Inv-loop μ-loop
 returns-2 c =
     let l = c .before in
     let a = l .before .before .before .args in
-    pricing-end (costsOf []) (a .m) (l .loop .r) (l .loop .line) (l .loop .costs) (drop (l .loop .next) (a .s .now)) (whole (a .s .now) (a .at) (a .m) (a .n)) (a .n + length (lines (drop (a .at) (a .s .now)))) (l .loop .inv) (c .loop-test .left)
+    (pricing-end (costsOf []) (a .m) (l .loop .r) (l .loop .line) (l .loop .costs) (drop (l .loop .next) (a .s .now)) (whole (a .s .now) (a .at) (a .m) (a .n)) (a .n + length (lines (drop (a .at) (a .s .now)))) (l .loop .inv .0) (c .loop-test .left), l .loop .inv .1 .offset)
 
 pub costs-at-spec : {M : Type 1} → statement M
 costs-at-spec =

@@ -2,7 +2,7 @@
 use Prim.Native.Nat.{ℕ, _+_, _-_}
 use native.Mathlib.Omega.{arith}
 use borrow.Author.Needs.{needs}
-use mathlib.Core.Path.{_≡_, sym, ap, _∙_}
+use mathlib.Core.Path.{_≡_, refl, sym, ap, _∙_}
 use mathlib.Core.List.{List, []}
 use mathlib.Core.Logic.{⊎-elim}
 use lib.ListN.{length, drop, set}
@@ -13,6 +13,7 @@ use Rattle.rules_text.specs.Tables.{Reading, grouped, pairs}
 use Rattle.rules_text.specs.Offsets.{rowAt, threeOf}
 use Rattle.rules_parts.specs.Parts.{costsOf}
 use Rattle.read_opening.specs.Shown.{keeping}
+use Rattle.rules_text.proofs.UsedLaws.{Used, used-none, used-lines, used-then}
 use Rattle.read_opening.proofs.KeepLaws.{Grouping, grouping-start, grouping-end, grouping-turn, line-fits}
 use Rattle.read_opening.proofs.tables.points_at.Statement.{statement}
 use Rattle.read_opening.proofs.tables.points_at.Tie as tie
@@ -22,7 +23,7 @@ whole s at m n = keeping 64 (costsOf [] []) (λ xs. costsOf xs []) (grouped pair
 
 abbrev Inv-loop : tie.InvT-loop
 Inv-loop s at m n costs₀ line₀ next₀ row₀ r₀ costs line next row r =
-    Grouping (λ xs. costsOf xs []) m r line costs (lines (drop next s)) (whole s at m n) (n + lib.ListN.length (lines (drop at s))) × row ≡ threeOf (rowAt s next 3)
+    Grouping (λ xs. costsOf xs []) m r line costs (lines (drop next s)) (whole s at m n) (n + lib.ListN.length (lines (drop at s))) × row ≡ threeOf (rowAt s next 3) × Used s n at line next
 
 abbrev μ-loop : tie.MeasureT-loop
 μ-loop s at m n costs₀ line₀ next₀ row₀ r₀ costs line next row r = m - r
@@ -36,7 +37,7 @@ three-at-requires c κs = search needs
 loop-holds : tie.Need-loop-holds Inv-loop μ-loop
 loop-holds c =
     let a = c .before .before .before .args in
-    (grouping-start (λ xs. costsOf xs []) (costsOf [] []) (c .before .no-costs .result) (a .m) (a .n) (lines (drop (a .at) (a .s .now))) (c .before .no-costs .ensures), c .three-at .ensures)
+    (grouping-start (λ xs. costsOf xs []) (costsOf [] []) (c .before .no-costs .result) (a .m) (a .n) (lines (drop (a .at) (a .s .now))) (c .before .no-costs .ensures), c .three-at .ensures, used-none (a .s .now) (a .n) (a .at))
 
 points-of-requires : tie.Need-points-of-requires Inv-loop μ-loop
 points-of-requires c κs = c .before .loop .inv .1
@@ -69,7 +70,7 @@ add-line c =
     let l = loops j in
     let a = begun j in
     let k = line-fits (λ xs. costsOf xs []) (a .args .m) (l .loop .r) (l .loop .line) (l .loop .costs) (left j) (whole (a .args .s .now) (a .args .at) (a .args .m) (a .args .n)) (a .args .n + length (lines (drop (a .args .at) (a .args .s .now)))) (l .loop .inv .0)
-    (reads j .before .loop-test .taken) (reads j .points-of .result .costs .count) (count-is j) (lines (drop (reads j .points-of .result .next) (a .args .s .now))) (reads j .points-of .ensures .1 .1) in
+    (reads j .before .loop-test .taken) (reads j .points-of .result .costs .count) (count-is j) (lines (drop (reads j .points-of .result .next) (a .args .s .now))) (reads j .points-of .ensures .1 .1 .0) in
     let p = a .pre in
     omega (arith, a .good)
 
@@ -86,17 +87,18 @@ loop-again c =
     let a = begun j in
     let g = reads j .points-of in (
       grouping-turn (λ xs. costsOf xs []) (a .args .m) (l .loop .r) (l .loop .line) (l .loop .costs) (left j) (whole (a .args .s .now) (a .args .at) (a .args .m) (a .args .n)) (a .args .n + length (lines (drop (a .args .at) (a .args .s .now)))) (l .loop .inv .0)
-          (reads j .before .loop-test .taken) (g .result .costs .count) (count-is j) (lines (drop (g .result .next) (a .args .s .now))) (g .ensures .1 .1) (j .if1 .costs)
+          (reads j .before .loop-test .taken) (g .result .costs .count) (count-is j) (lines (drop (g .result .next) (a .args .s .now))) (g .ensures .1 .1 .0) (j .if1 .costs)
           (⊎-elim (λ w. w .1 ∙ ap (set (l .loop .costs) (l .loop .r)) (g .ensures .0))
           (λ w. w .1 ∙ sym (set-out (l .loop .costs) (l .loop .r) (costsOf (pairs (l .loop .r) (left j)) []) (omega (arith, w .0 .left, l .loop .inv .0 .long)))) (j .if1 .came)),
       g .ensures .1 .0,
+      used-then (l .loop .inv .2) (used-lines (a .args .s .now) (l .loop .line) (l .loop .next) (g .result .costs .count) (g .result .next) (g .ensures .1 .1 .1) (l .loop .line + g .result .costs .count) refl),
     )
 
 returns : tie.Need-returns Inv-loop μ-loop
 returns c =
     let l = c .before in
     let a = l .before .before .before .before in
-    (grouping-end (λ xs. costsOf xs []) (a .args .m) (l .loop .r) (l .loop .line) (l .loop .costs) (lines (drop (l .loop .next) (a .args .s .now))) (whole (a .args .s .now) (a .args .at) (a .args .m) (a .args .n)) (a .args .n + length (lines (drop (a .args .at) (a .args .s .now)))) (l .loop .inv .0) (c .loop-test .left), l .loop .inv .0 .few)
+    (grouping-end (λ xs. costsOf xs []) (a .args .m) (l .loop .r) (l .loop .line) (l .loop .costs) (lines (drop (l .loop .next) (a .args .s .now))) (whole (a .args .s .now) (a .args .at) (a .args .m) (a .args .n)) (a .args .n + length (lines (drop (a .args .at) (a .args .s .now)))) (l .loop .inv .0) (c .loop-test .left), (l .loop .inv .0 .few, l .loop .inv .2 .offset))
 
 pub points-at-spec : {M : Type 1} → statement M
 points-at-spec =

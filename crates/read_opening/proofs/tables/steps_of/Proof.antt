@@ -16,10 +16,11 @@ use Rattle.rules_curve.specs.declared.RawStep.{RawStep}
 use Rattle.rules_curve.specs.declared.RawCurve.{RawCurve}
 use Rattle.rules_text.specs.Numbers.{Row, lines, row}
 use Rattle.rules_text.specs.Tables.{hasId, ifSuits, pairs}
-use Rattle.rules_text.specs.Offsets.{kept, rowAt, threeOf}
+use Rattle.rules_text.specs.Offsets.{kept, rowAt, threeOf, bytesOf}
 use Rattle.rules_text.proofs.LineLaws.{line, lines-few}
 use Rattle.rules_text.proofs.RowLaws.{HeldThree}
 use Rattle.rules_text.proofs.TableLaws.{Loop, room, ends, Turned, turns, kept-length}
+use Rattle.rules_text.proofs.UsedLaws.{Used, used-none, used-next, used-count}
 use Rattle.rules_parts.specs.Parts.{stepOf}
 use Rattle.read_resources.specs.Joined.{withSteps}
 use Rattle.read_opening.proofs.GroupLaws.{no-line, other-line, own-line}
@@ -42,14 +43,14 @@ abbrev Reads : List ℕ → ℕ → ℕ → ℕ → List RawStep → ℕ → Typ
 Reads s at r count steps next = Loop 2 (of r) on stepOf count 0 steps (drop next s) (length (rows s at r)) (whole s at r) (lines (drop at s))
 
 abbrev Inv-loop : tie.InvT-loop
-Inv-loop s at r steps₀ count₀ next₀ row₀ steps count next row = Reads s at r count steps next × row ≡ threeOf (rowAt s next 3)
+Inv-loop s at r steps₀ count₀ next₀ row₀ steps count next row = Reads s at r count steps next × row ≡ threeOf (rowAt s next 3) × Used s 0 at count next
 
 abbrev μ-loop : tie.MeasureT-loop
 μ-loop s at r steps₀ count₀ next₀ row₀ steps count next row = lib.ListN.length (lines (drop next s))
 
 loop-holds : tie.Need-loop-holds Inv-loop μ-loop
 unfolding kept pairs
-loop-holds c = (record { count = omega arith; stores = refl; rest = refl }, c .before .pre)
+loop-holds c = let a = c .before .args in (record { count = omega arith; stores = refl; rest = refl }, c .before .pre, used-none (a .s .now) 0 (a .at))
 
 is-id-requires : tie.Need-is-id-requires Inv-loop μ-loop
 is-id-requires c κs = search needs
@@ -82,8 +83,16 @@ returns c =
     let i = c .before .before in
     let l = loops i in
     let d = ends 2 (of (resource l)) on stepOf (l .loop .count) 0 (l .loop .steps) (drop (l .loop .next) (text l)) _ _ _ (l .loop .inv .0)
-    (other-line (resource l) (text l) (l .loop .next) (l .loop .row) (l .loop .inv .1) (i .before .before .loop-test .taken) (sym (tests i) ∙ not-true (i .is-id .result) (c .before .if1 .taken))) in
-    (c .with-steps .ensures ∙ by-fields (d .count) (d .stores), (l .loop .inv .1, d .rest ∙ ap (λ (k : RawCurve). drop (k .count) (lines (drop (start l) (text l)))) (sym (c .with-steps .ensures))))
+    (other-line (resource l) (text l) (l .loop .next) (l .loop .row) (l .loop .inv .1) (i .before .before .loop-test .taken) (sym (tests i) ∙ not-true (i .is-id .result) (c .before .if1 .taken))) in (
+      c .with-steps .ensures ∙ by-fields (d .count) (d .stores),
+      (
+        l .loop .inv .1,
+        (
+          d .rest ∙ ap (λ (k : RawCurve). drop (k .count) (lines (drop (start l) (text l)))) (sym (c .with-steps .ensures)),
+          used-count (l .loop .inv .2) ∙ ap (λ (k : RawCurve). start l + bytesOf (k .count) (lines (drop (start l) (text l)))) (sym (c .with-steps .ensures)),
+        ),
+      ),
+    )
 
 mul-steps : tie.Need-mul-steps Inv-loop μ-loop
 mul-steps c = omega arith
@@ -137,7 +146,7 @@ loop-less : tie.Need-loop-less Inv-loop μ-loop
 loop-less c = turn (c .before) .fewer
 
 loop-again : tie.Need-loop-again Inv-loop μ-loop
-loop-again c = (turn (c .before) .again, c .three-at .ensures)
+loop-again c = (turn (c .before) .again, c .three-at .ensures, used-next (loops (asked (c .before)) .loop .inv .2) (there (c .before) .after))
 
 with-steps-requires-2 : tie.Need-with-steps-requires-2 Inv-loop μ-loop
 with-steps-requires-2 c κs = search needs
@@ -146,8 +155,16 @@ returns-2 : tie.Need-returns-2 Inv-loop μ-loop
 returns-2 c =
     let l = c .before .before in
     let d = ends 2 (of (resource l)) on stepOf (l .loop .count) 0 (l .loop .steps) (drop (l .loop .next) (text l)) _ _ _ (l .loop .inv .0)
-    (no-line (resource l) (text l) (l .loop .next) (l .loop .row) (l .loop .inv .1) (c .before .loop-test .left)) in
-    (c .with-steps2 .ensures ∙ by-fields (d .count) (d .stores), (l .loop .inv .1, d .rest ∙ ap (λ (k : RawCurve). drop (k .count) (lines (drop (start l) (text l)))) (sym (c .with-steps2 .ensures))))
+    (no-line (resource l) (text l) (l .loop .next) (l .loop .row) (l .loop .inv .1) (c .before .loop-test .left)) in (
+      c .with-steps2 .ensures ∙ by-fields (d .count) (d .stores),
+      (
+        l .loop .inv .1,
+        (
+          d .rest ∙ ap (λ (k : RawCurve). drop (k .count) (lines (drop (start l) (text l)))) (sym (c .with-steps2 .ensures)),
+          used-count (l .loop .inv .2) ∙ ap (λ (k : RawCurve). start l + bytesOf (k .count) (lines (drop (start l) (text l)))) (sym (c .with-steps2 .ensures)),
+        ),
+      ),
+    )
 
 pub steps-of-spec : {M : Type 1} → statement M
 steps-of-spec =
