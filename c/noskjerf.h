@@ -10,7 +10,7 @@
  * - A pointer with a length stands for that many elements. It must not be null, not even where the length is 0, and buffers that are
  *   written must not overlap anything else that is passed.
  * - It keeps nothing between calls, allocates nothing and reads no files: any number of threads may call it at once. A call of
- *   noskjerf_run takes some 450 KB of stack; give a thread that calls it 1 MiB.
+ *   noskjerf_run or noskjerf_told takes some 450 KB of stack; give a thread that calls it 1 MiB.
  *
  * Units: quantities are hundredths of a MW, prices 0.0001 dollar per MWh, heat rates Btu/kWh.
  *
@@ -34,6 +34,9 @@ extern "C" {
 /* How many bytes a text may have; a longer one is refused (18). */
 #define NOSKJERF_MAX_TEXT 65536
 
+/* How many numbers the last buffer of noskjerf_told has to have. */
+#define NOSKJERF_TOLD 2
+
 /* How many numbers the two buffers of noskjerf_default have to have. */
 #define NOSKJERF_EDGES 12
 #define NOSKJERF_PRICES 10
@@ -41,7 +44,7 @@ extern "C" {
 /* How many numbers the charges of noskjerf_default are. */
 #define NOSKJERF_CHARGES 7
 
-/* How many bytes a page lent to noskjerf_run has to have. */
+/* How many bytes a page lent to noskjerf_run or noskjerf_told has to have. */
 size_t noskjerf_room(void);
 
 /*
@@ -54,6 +57,17 @@ size_t noskjerf_room(void);
  * Answers -1 where page_len is below noskjerf_room(); the page is then untouched. No terminating zero is read or written.
  */
 int64_t noskjerf_run(const uint8_t *text, size_t text_len, uint8_t *page, size_t page_len);
+
+/*
+ * Runs a text as noskjerf_run does, and tells how it ends, so that no page has to be read for it.
+ *
+ * The page and the answer are those of noskjerf_run. Beside them it puts two numbers into `told`, and leaves those past them as they were:
+ *   told[0]  the number of the refusal, 1 to 18; 0 where nothing is refused
+ *   told[1]  the refusal's line, from 1 on; 0 where nothing is refused
+ *
+ * Answers -1 where page_len is below noskjerf_room() or told_len below NOSKJERF_TOLD; page and told are then untouched.
+ */
+int64_t noskjerf_told(const uint8_t *text, size_t text_len, uint8_t *page, size_t page_len, uint64_t *told, size_t told_len);
 
 /*
  * Judges a bid as it is submitted in a month since the rule took effect, which sets the highest price.

@@ -1,13 +1,13 @@
-/* Tests of noskjerf_room and noskjerf_run. */
+/* Tests of noskjerf_room, noskjerf_run and noskjerf_told. */
 #include <string.h>
 
 #include "check.h"
 #include "noskjerf.h"
 
 /* Case T: an opening, and one interval. */
-#define OPENING \
-    "month\n" \
-    "25\n" \
+#define OPENING "month\n25\n" OPENING_AFTER_MONTH
+
+#define OPENING_AFTER_MONTH \
     "portfolio seller\n" \
     "0 1\n" \
     "resource portfolio start\n" \
@@ -51,6 +51,11 @@
 static uint8_t page[NOSKJERF_ROOM + 100];
 
 static uint8_t long_text[NOSKJERF_MAX_TEXT + 1];
+
+/* Numbers to be told, with one more than there have to be, and what each is before a call. */
+static uint64_t told[NOSKJERF_TOLD + 1];
+
+#define UNTOLD UINT64_MAX
 
 /* Whether every byte of the page from one offset on is as it was. */
 static int untouched_from(size_t at)
@@ -122,11 +127,75 @@ static void test_length(void)
     CHECK(prints_on(long_text, NOSKJERF_MAX_TEXT + 1, sizeof page, REFUSAL("18 1")));
 }
 
+/* Runs the first bytes of a text on a page of some length with told of some length, all as before a call. */
+static int64_t tell(const uint8_t *text, size_t length, size_t page_len, size_t told_len)
+{
+    size_t i;
+
+    memset(page, BEFORE, sizeof page);
+    for (i = 0; i < NOSKJERF_TOLD + 1; i++) {
+        told[i] = UNTOLD;
+    }
+    return noskjerf_told(text, length, page, page_len, told, told_len);
+}
+
+/* Whether the first bytes of a text print what is expected, tell this number and line, and leave the rest as it was. */
+static int tells_of(const uint8_t *text, size_t length, const char *expected, uint64_t number, uint64_t line)
+{
+    size_t count = strlen(expected);
+    int64_t answer = tell(text, length, sizeof page, NOSKJERF_TOLD + 1);
+
+    return answer == (int64_t)count && memcmp(page, expected, count) == 0 && untouched_from(count) && told[0] == number && told[1] == line &&
+           told[2] == UNTOLD;
+}
+
+/* The same for a whole text. */
+static int tells(const char *text, const char *expected, uint64_t number, uint64_t line)
+{
+    return tells_of((const uint8_t *)text, strlen(text), expected, number, line);
+}
+
+/* Whether a page or told of some length is answered with -1, and both are left as they were. */
+static int nothing_told(const char *text, size_t page_len, size_t told_len)
+{
+    return tell((const uint8_t *)text, strlen(text), page_len, told_len) == -1 && untouched_from(0) && told[0] == UNTOLD &&
+           told[1] == UNTOLD && told[2] == UNTOLD;
+}
+
+static void test_told(void)
+{
+    /* accepted: nothing is refused, and no line is named */
+    CHECK(tells(OPENING, "", 0, 0));
+    CHECK(tells(OPENING INTERVAL, PAGE_OF_INTERVAL("1"), 0, 0));
+    CHECK(tells(OPENING INTERVAL INTERVAL INTERVAL INTERVAL,
+                PAGE_OF_INTERVAL("1") PAGE_OF_INTERVAL("2") PAGE_OF_INTERVAL("3") PAGE_OF_INTERVAL("4"), 0, 0));
+    /* refused: in the form or the values of either part, with pages before it or none, and by length */
+    CHECK(tells("", REFUSAL("17 1"), 17, 1));
+    CHECK(tells("month\n25\nportfolio seller\n0 01\n", REFUSAL("17 4"), 17, 4));
+    CHECK(tells(OPENING "0 40000 0 0 20000 1000 3000 50\n", REFUSAL("17 16"), 17, 16));
+    CHECK(tells(OPENING INTERVAL "x", PAGE_OF_INTERVAL("1") REFUSAL("17 24"), 17, 24));
+    CHECK(tells("month\n0\n" OPENING_AFTER_MONTH, REFUSAL("9 15"), 9, 15));
+    CHECK(tells(OPENING INTERVAL INTERVAL INTERVAL INTERVAL INTERVAL,
+                PAGE_OF_INTERVAL("1") PAGE_OF_INTERVAL("2") PAGE_OF_INTERVAL("3") PAGE_OF_INTERVAL("4") REFUSAL("12 55"), 12, 55));
+    memset(long_text, '\n', sizeof long_text);
+    CHECK(tells_of(long_text, NOSKJERF_MAX_TEXT, REFUSAL("17 1"), 17, 1));
+    CHECK(tells_of(long_text, NOSKJERF_MAX_TEXT + 1, REFUSAL("18 1"), 18, 1));
+    /* no room */
+    CHECK(tell((const uint8_t *)"", 0, NOSKJERF_ROOM, NOSKJERF_TOLD) == (int64_t)strlen(REFUSAL("17 1")));
+    CHECK(nothing_told("", NOSKJERF_ROOM, NOSKJERF_TOLD - 1));
+    CHECK(nothing_told("", NOSKJERF_ROOM, 0));
+    CHECK(nothing_told("", NOSKJERF_ROOM - 1, NOSKJERF_TOLD));
+    CHECK(nothing_told(OPENING INTERVAL, NOSKJERF_ROOM - 1, NOSKJERF_TOLD));
+    CHECK(nothing_told(OPENING INTERVAL, NOSKJERF_ROOM, NOSKJERF_TOLD - 1));
+    CHECK(nothing_told(OPENING INTERVAL, 0, 0));
+}
+
 int main(void)
 {
     test_room();
     test_intervals();
     test_form();
     test_length();
+    test_told();
     return report("test");
 }

@@ -5,7 +5,7 @@
 
 extern "C" {
     fn noskjerf_room() -> usize;
-    fn noskjerf_run(text: *const u8, text_len: usize, page: *mut u8, page_len: usize) -> i64;
+    fn noskjerf_told(text: *const u8, text_len: usize, page: *mut u8, page_len: usize, told: *mut u64, told_len: usize) -> i64;
 }
 
 /// How many bytes a page has to have.
@@ -14,10 +14,20 @@ pub fn room() -> usize {
     unsafe { noskjerf_room() }
 }
 
-/// Puts what a text prints on the page; answers how many bytes that took, or none where the page is too small.
-pub fn run(text: &[u8], page: &mut [u8]) -> Option<usize> {
-    // SAFETY: both pointers come with the lengths of their slices
-    let count = unsafe { noskjerf_run(text.as_ptr(), text.len(), page.as_mut_ptr(), page.len()) };
+/// Puts what a text prints on the page, and the number and line of its refusal into `told`, 0 and 0 where nothing is refused; answers
+/// how many bytes were printed, or none where the page is too small.
+pub fn run(text: &[u8], page: &mut [u8], told: &mut [u64; 2]) -> Option<usize> {
+    // SAFETY: each pointer comes with the length of its slice
+    let count = unsafe {
+        noskjerf_told(
+            text.as_ptr(),
+            text.len(),
+            page.as_mut_ptr(),
+            page.len(),
+            told.as_mut_ptr(),
+            told.len(),
+        )
+    };
     usize::try_from(count).ok()
 }
 

@@ -86,14 +86,20 @@ pub const MAX_TEXT: usize = 65_536;
 /// assert_eq!(noskjerf::print(b"month\n025\n"), b"refusal line\n17 2\n");
 /// ```
 pub fn print(text: &[u8]) -> Vec<u8> {
-    let mut page = vec![0; ffi::room()];
-    let count = ffi::run(text, &mut page).expect("the page has the room that the engine asks for");
-    page.truncate(count);
-    page.shrink_to_fit();
-    page
+    printed(text).0
 }
 
-/// Runs a text: what it prints, read into pages and a refusal.
+/// What a text prints, and its refusal.
+fn printed(text: &[u8]) -> (Vec<u8>, Option<Refusal>) {
+    let mut page = vec![0; ffi::room()];
+    let mut told = [0; 2];
+    let count = ffi::run(text, &mut page, &mut told).expect("the page has the room that the engine asks for");
+    page.truncate(count);
+    page.shrink_to_fit();
+    (page, Refusal::told(told))
+}
+
+/// Runs a text: what it prints, read into pages, and its refusal.
 ///
 /// Intervals are printed one by one, so that the pages of those before a refusal are there beside it.
 ///
@@ -104,5 +110,6 @@ pub fn print(text: &[u8]) -> Vec<u8> {
 /// assert_eq!((refusal.number, refusal.line), (17, 2));
 /// ```
 pub fn run(text: &[u8]) -> Output {
-    Output::of(print(text))
+    let (bytes, refusal) = printed(text);
+    Output::of(bytes, refusal)
 }

@@ -39,9 +39,9 @@ impl Output {
         }
     }
 
-    /// The output with these bytes, which the engine printed.
-    pub(crate) fn of(bytes: Vec<u8>) -> Output {
-        let (pages, refusal) = read(&bytes).expect("the engine prints pages and then at most one refusal");
+    /// The output with these bytes, which the engine printed, and the refusal that it told.
+    pub(crate) fn of(bytes: Vec<u8>, refusal: Option<Refusal>) -> Output {
+        let pages = read(&bytes).expect("the engine prints pages and then at most one refusal");
         Output { bytes, pages, refusal }
     }
 }
@@ -112,31 +112,18 @@ pub struct Step {
     pub price: i64,
 }
 
-/// Reads what the engine printed, or nothing where it has another form.
-fn read(bytes: &[u8]) -> Option<(Vec<Page>, Option<Refusal>)> {
+/// Reads the pages that the engine printed, or nothing where they have another form. The lines of a refusal come after them and aren't
+/// read: the engine tells the refusal.
+fn read(bytes: &[u8]) -> Option<Vec<Page>> {
     let mut lines = std::str::from_utf8(bytes).ok()?.lines().peekable();
     let mut pages = Vec::new();
     while lines.peek() == Some(&VERDICTS) {
         pages.push(page(&mut lines)?);
     }
-    let refusal = match lines.next() {
-        Some(REFUSAL) => Some(refusal(lines.next()?)?),
-        Some(_) => return None,
-        None => None,
-    };
-    if lines.next().is_some() {
-        return None;
+    match lines.next() {
+        Some(REFUSAL) | None => Some(pages),
+        Some(_) => None,
     }
-    Some((pages, refusal))
-}
-
-/// Reads the line of a refusal.
-fn refusal(line: &str) -> Option<Refusal> {
-    let [number, line] = row(line)?;
-    Some(Refusal {
-        number: number.try_into().ok()?,
-        line: line.try_into().ok()?,
-    })
 }
 
 /// Reads the three tables of an interval.
@@ -217,8 +204,7 @@ interval resource end price
 
     #[test]
     fn a_page_is_read() {
-        let (pages, refusal) = read(PAGE.as_bytes()).unwrap();
-        assert_eq!(refusal, None);
+        let pages = read(PAGE.as_bytes()).unwrap();
         assert_eq!(pages.len(), 1);
         let page = &pages[0];
         assert_eq!(page.interval, 1);
@@ -265,21 +251,23 @@ interval resource end price
     }
 
     #[test]
-    fn a_refusal_after_a_page_is_read() {
-        let (pages, refusal) = read(format!("{PAGE}refusal line\n17 24\n").as_bytes()).unwrap();
-        assert_eq!(pages.len(), 1);
-        assert_eq!(refusal, Some(Refusal { number: 17, line: 24 }));
+    fn a_page_before_a_refusal_is_read() {
+        let pages = read(format!("{PAGE}refusal line\n17 24\n").as_bytes());
+        assert_eq!(pages, read(PAGE.as_bytes()));
+        assert_eq!(read(b"refusal line\n17 24\n"), Some(Vec::new()));
+    }
+
+    #[test]
+    fn the_refusal_is_the_one_told() {
+        let refusal = Some(Refusal { number: 17, line: 24 });
+        let output = Output::of(format!("{PAGE}refusal line\n17 24\n").into_bytes(), refusal);
+        assert_eq!((output.pages.len(), output.refusal), (1, refusal));
+        assert_eq!(Output::of(PAGE.into(), None).accepted().unwrap().len(), 1);
     }
 
     #[test]
     fn nothing_is_read_from_another_form() {
-        for other in [
-            "x\n",
-            "refusal line\n",
-            "refusal line\n17\n",
-            "refusal line\n17 1\n17 1\n",
-            "1 0 1 0 0\n",
-        ] {
+        for other in ["x\n", "17 1\n", "1 0 1 0 0\n"] {
             assert_eq!(read(other.as_bytes()), None, "{other:?}");
         }
         assert_eq!(read(&PAGE.as_bytes()[..PAGE.len() - 40]), None);

@@ -25,6 +25,12 @@ impl Refusal {
     pub fn reason(&self) -> &'static str {
         reason(self.number)
     }
+
+    /// The refusal with the number and line that the engine told, where it told one: its numbers are 1 to 18.
+    pub(crate) fn told([number, line]: [u64; 2]) -> Option<Refusal> {
+        let number = u8::try_from(number).expect("the engine has 18 refusals");
+        (number != 0).then_some(Refusal { number, line })
+    }
 }
 
 impl fmt::Display for Refusal {
@@ -70,6 +76,12 @@ mod tests {
         let sentences: BTreeSet<&str> = (0..=18).map(reason).collect();
         assert_eq!(sentences.len(), 19);
         assert_eq!(reason(0), reason(19));
+    }
+
+    #[test]
+    fn a_number_that_is_told_is_a_refusal() {
+        assert_eq!(Refusal::told([0, 0]), None);
+        assert_eq!(Refusal::told([12, 55]), Some(Refusal { number: 12, line: 55 }));
     }
 
     #[test]

@@ -8,14 +8,17 @@ ghost use Prim.Native.Nat.{_≤_};
 ghost use lib.ListN.{length};
 ghost use lib.Seq.{sets};
 ghost use Rattle.rules_curve.specs.Curves.{bidRefusal};
-ghost use Rattle.rules_run.specs.Run.{output, ranWithin, ranTo, runRoom};
-ghost use Rattle.rules_library.specs.Answers.{ranNumber};
+ghost use Rattle.rules_run.specs.Run.{output, endOf, ranWithin, ranTo, runRoom};
+ghost use Rattle.rules_library.specs.Answers.{ranNumber, toldAnswer, toldPage, toldAfter};
 ghost use Rattle.rules_library.specs.Slices.{rawBid, costsIn, defaultAnswer, edgesAfter, pricesAfter, edgesOf, pricesOf};
 
 // How many numbers the slices lent to noskjerf_default have to have: the number of steps, the start and the ends of a curve, and its prices.
 const EDGES: usize = 12;
 
 const PRICES: usize = 10;
+
+// How many numbers the slice lent to noskjerf_told has to have: the number of a refusal and its line.
+const TOLD: usize = 2;
 
 // Puts the number of steps, the start and the ends of a curve at the front of a slice.
 fn put_edges(curve: Curve, edges: &mut [u64])
@@ -46,7 +49,7 @@ fn put_prices(curve: Curve, prices: &mut [i64])
     }
 }
 
-// How many bytes a page lent to noskjerf_run has to have.
+// How many bytes a page lent to noskjerf_run or noskjerf_told has to have.
 #[no_mangle]
 pub extern "C" fn noskjerf_room() -> usize
     ensures { λ r. ⌜ r ≡ runRoom ⌝ }
@@ -59,12 +62,31 @@ pub extern "C" fn noskjerf_room() -> usize
 #[no_mangle]
 pub extern "C" fn noskjerf_run(text: &[u8], page: &mut [u8]) -> i64
     ensures page { λ r. ⌜ now (page .exit) ≡ ranWithin (now (page .entry)) (output (now (text .entry))) ⌝ }
-    ensures count { λ r. ⌜ r ≡ ranNumber (ranTo (now (page .entry)) (output (now (text .entry)))) ⌝ }
+    ensures count { λ r. ⌜ r ≡ ranNumber (ranTo (now (page .entry)) (output (now (text .entry))) (endOf (now (text .entry)))) ⌝ }
 {
     match run::run(text, page) {
-        Ran::Printed(count) => count as i64,
+        Ran::Printed(count, _, _) => count as i64,
         Ran::TooSmall => -1,
     }
+}
+
+// Runs a text as noskjerf_run does, and puts the number of its refusal and then the line at the front of `told`, 0 and 0 where nothing is refused. Answers how
+// many bytes were printed, or -1 where the page has less room than noskjerf_room says or `told` fewer than 2 numbers, and leaves both as they were.
+#[no_mangle]
+pub extern "C" fn noskjerf_told(text: &[u8], page: &mut [u8], told: &mut [u64]) -> i64
+    ensures answer { λ r. ⌜ r ≡ toldAnswer (now (page .entry)) (now (told .entry)) (output (now (text .entry))) ⌝ }
+    ensures page { λ r. ⌜ now (page .exit) ≡ toldPage (now (page .entry)) (now (told .entry)) (output (now (text .entry))) ⌝ }
+    ensures told { λ r. ⌜ now (told .exit) ≡ toldAfter (now (page .entry)) (now (told .entry)) (endOf (now (text .entry))) ⌝ }
+{
+    if told.len() < TOLD {
+        return -1;
+    }
+    let Ran::Printed(count, number, line) = run::run(text, page) else {
+        return -1;
+    };
+    told[0] = number;
+    told[1] = line as u64;
+    count as i64
 }
 
 // Whether a bid is accepted, by month since the rule took effect: 0, or the number of its refusal. `steps` has end and price of each step in turn, and numbers

@@ -1,6 +1,6 @@
-// A reader of a text: the lent text and the offset of the next line, with thin functions over those of `text`.
+// A reader of a text: the lent text and the offset of the next line, with thin functions over those of `text_lines`.
 ghost use mathlib.Core.Path.{_≡_};
-ghost use Rattle.rules_text.specs.Offsets.{rowAt, namesAt};
+ghost use Rattle.rules_text.specs.Offsets.{rowAt};
 
 // The lent text and the offset of the next line.
 pub struct Reader<'a> {
@@ -27,13 +27,6 @@ pub fn row<'a>(r: Reader<'a>, k: usize) -> rules_text::Row
     ensures { λ x. ⌜ x ≡ rowAt (now (r .entry .text)) (r .entry .at) k ⌝ }
 {
     text_lines::row_at(r.text, r.at, k)
-}
-
-// Where the next line is the wanted names line, the offset of the one after it; otherwise nothing.
-pub fn names<'a>(r: Reader<'a>, want: &[u8]) -> rules_text::Found
-    ensures { λ x. ⌜ x ≡ namesAt (now (r .entry .text)) (r .entry .at) (now (want .entry)) ⌝ }
-{
-    text_names::line_is(r.text, r.at, want)
 }
 
 // The k values of the line at an offset, through a reader: its parameters are plain, so that its callers need no walk.

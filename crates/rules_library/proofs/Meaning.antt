@@ -1,22 +1,22 @@
--- What noskjerf_default writes: 12 edges and 10 prices, where the costs are accepted, and nothing past them. Assumes nothing.
+-- What noskjerf_default writes: 12 edges and 10 prices, where the costs are accepted, and nothing past them; what a run answers and tells. Assumes nothing.
 use Prim.Native.Nat.{ℕ, zero, suc, _+_, _≤_, _<_}
-use mathlib.Core.Path.{_≡_, refl, _∙_}
-use mathlib.Core.Bool.{Bool, true, false, cond}
+use mathlib.Core.Path.{_≡_, refl, ap, _∙_}
+use mathlib.Core.Bool.{Bool, true, false, cond, _&&_}
 use mathlib.Core.List.{List, [], _∷_}
 use native.Mathlib.Omega.{arith}
 use borrow.Author.Tests.{leb-true, le-leb, lt-leb}
 use lib.Dec.{leb}
 use lib.IntN.{ℤ, pos, negsuc}
-use lib.ListN.{length, getD, set, length-map}
-use lib.Seq.{sets, getD-set-other}
+use lib.ListN.{length, getD, set, length-map, length-set}
+use lib.Seq.{sets, length-sets, getD-set-same, getD-set-other}
 use Rattle.rules_number.specs.Over.{listed}
 use Rattle.rules_number.proofs.OverLaws.{both, listed-length, padded-length}
 use Rattle.rules_curve.specs.Curves.{blankStep}
 use Rattle.rules_curve.proofs.CheckLaws.{then-both, unless-holds}
 use Rattle.rules_cost.specs.Costs.{stepCount, costStep, costCurve, pointsGood, costRefusal}
 use Rattle.rules_cost.specs.declared.Costs.{Costs}
-use Rattle.rules_run.specs.Run.{runRoom, ranTo}
-use Rattle.rules_library.specs.Answers.{ranNumber}
+use Rattle.rules_run.specs.Run.{Ended, runRoom, ranWithin, ranTo}
+use Rattle.rules_library.specs.Answers.{ranNumber, toldRoom, toldAnswer, toldPage, toldAfter}
 use Rattle.rules_library.specs.Slices.{edgesOf, pricesOf, hasRoom, defaultAnswer, ifWritten, edgesAfter, pricesAfter}
 
 module _ (c : Costs) (z : costRefusal c ≡ 0) where
@@ -70,10 +70,57 @@ module _ (edges : List ℕ) (prices : List ℤ) (c : Costs) where
   prices-past k h = either (pos 0) k (sets prices 0 (pricesOf (costCurve c))) prices (λ z. past (pos 0) prices 0 (pricesOf (costCurve c)) k (omega (arith, prices-size c z)))
 
 -- ---- a run's answer: how many bytes were printed, or -1 where the page is too small
-pub ran-counts : (page printed : List ℕ) → runRoom ≤ length page → ranNumber (ranTo page printed) ≡ pos (length printed)
-unfolding ranTo
-ran-counts page printed h = rw (le-leb runRoom (length page) h)
+module _ (page printed : List ℕ) (e : Ended) where
+  pub ran-counts : runRoom ≤ length page → ranNumber (ranTo page printed e) ≡ pos (length printed)
+  unfolding ranTo
+  ran-counts h = rw (le-leb runRoom (length page) h)
 
-pub ran-too-small : (page printed : List ℕ) → length page < runRoom → ranNumber (ranTo page printed) ≡ negsuc 0
-unfolding ranTo
-ran-too-small page printed h = rw (lt-leb runRoom (length page) h)
+  pub ran-too-small : length page < runRoom → ranNumber (ranTo page printed e) ≡ negsuc 0
+  unfolding ranTo
+  ran-too-small h = rw (lt-leb runRoom (length page) h)
+
+-- ---- "the number and line of a refused text given as values"
+-- where there is room for both: the answer and the page of a plain run, the refusal's number and then its line, and nothing past them
+pub record Told (page told printed : List ℕ) (e : Ended) : Type 0 where
+  pub count : toldAnswer page told printed ≡ ranNumber (ranTo page printed e)
+  pub same : toldPage page told printed ≡ ranWithin page printed
+  pub number : getD (toldAfter page told e) 0 0 ≡ e .number
+  pub line : getD (toldAfter page told e) 1 0 ≡ e .line
+  pub past : (k : ℕ) → 2 ≤ k → getD (toldAfter page told e) k 0 ≡ getD told k 0
+  pub long : length (toldAfter page told e) ≡ length told
+
+-- where there is not: -1, and both as they were
+pub record Untold (page told printed : List ℕ) (e : Ended) : Type 0 where
+  pub none : toldAnswer page told printed ≡ negsuc 0
+  pub page-kept : toldPage page told printed ≡ page
+  pub told-kept : toldAfter page told e ≡ told
+
+module _ (page told printed : List ℕ) (e : Ended) where
+  pub tells : 2 ≤ length told → runRoom ≤ length page → Told page told printed e
+  unfolding toldAnswer toldPage toldAfter ranTo ranWithin
+  tells h k =
+      let a = le-leb 2 (length told) h in
+      let b = le-leb runRoom (length page) k in
+      let two = e .number ∷ e .line ∷ [] in
+      let after : toldAfter page told e ≡ sets told 0 two = rw a (rw b) in record {
+        count = rw a (rw b);
+        same = rw a (rw b);
+        number = ap (λ (l : List ℕ). getD l 0 0) after ∙ getD-set-other (set told 0 (e .number)) 1 0 (e .line) 0 (λ z. omega arith) ∙ getD-set-same told 0 (e .number) 0 (omega (arith, h));
+        line = ap (λ (l : List ℕ). getD l 1 0) after ∙ getD-set-same (set told 0 (e .number)) 1 (e .line) 0 (omega (arith, h, length-set told 0 (e .number)));
+        past = λ i l. ap (λ (l : List ℕ). getD l i 0) after ∙ past 0 told 0 two i l;
+        long = ap length after ∙ length-sets told 0 two;
+      }
+
+  untold : toldRoom page told ≡ false → Untold page told printed e
+  unfolding toldAnswer toldPage toldAfter
+  untold h = record { none = rw h; page-kept = rw h; told-kept = rw h }
+
+  pub too-few-told : length told < 2 → Untold page told printed e
+  too-few-told h = untold (rw (lt-leb 2 (length told) h))
+
+  pub too-small-page : length page < runRoom → Untold page told printed e
+  too-small-page h = untold (go (leb 2 (length told)))
+    where
+      go : (b : Bool) → b && leb runRoom (length page) ≡ false
+      go true = lt-leb runRoom (length page) h
+      go false = refl

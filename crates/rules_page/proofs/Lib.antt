@@ -2,3 +2,6 @@
 pub mod SameValues
 pub mod Examples
 pub mod SellerLines
+pub mod WithinBound
+pub mod StepBound
+pub mod OwnPage

@@ -23,9 +23,11 @@ use Rattle.rules_text.specs.Numbers.{Line, bytes, lines}
 use Rattle.rules_text.specs.Tables.{Reading, faulty, found}
 use Rattle.rules_text.specs.Printing.{lineText, refusalText}
 use Rattle.rules_parts.specs.Parts.{readOpening, readInterval}
-use Rattle.rules_run.specs.Run.{part, answer, pageOf, intervals, hourText, partsText, output, ranWithin, ranTo}
+use Rattle.rules_run.specs.Run.{part, answer, pageOf, intervals, hourText, partsText, output, Ended, endedBy, partsEnd, endOf, ranWithin, ranTo}
+use Rattle.rules_run.specs.declared.Ran.{Ran}
 use Rattle.rules_run.specs.declared.Ran.the-variants as ran
 use Rattle.rules_run.proofs.CountLaws.{Uses, opening-using}
+use Rattle.rules_run.proofs.EndLaws.{too-long-end, read-text-end}
 use Rattle.rules_text.specs.declared.Printed.{Printed}
 use Rattle.rules_text.specs.declared.Printed.the-variants.{To, Full}
 use Rattle.rules_page.specs.Pages.{putWithin, putWithinTo}
@@ -153,39 +155,53 @@ opened-fresh o = go (openingRefusal o)
 
 -- ---- a run into a lent page
 module _ (out text : List ℕ) where
-  pub too-small : length out < 655424 → (out ≡ ranWithin out (output text)) × (ran.TooSmall ≡ ranTo out (output text))
+  -- the answer of a run that printed this and ended so
+  abbrev answering : Bool → List ℕ → Ended → Ran
+  answering b printed e = cond b (ran.Printed (length printed) (e .number) (e .line)) ran.TooSmall
+
+  pub too-small : length out < 655424 → (out ≡ ranWithin out (output text)) × (ran.TooSmall ≡ ranTo out (output text) (endOf text))
   unfolding ranWithin ranTo
   too-small h =
       let e = lt-leb 655424 (length out) h in
-      (sym (ap (λ (b : Bool). cond b (sets out 0 (output text)) out) e), sym (ap (λ (b : Bool). cond b (ran.Printed (length (output text))) ran.TooSmall) e))
+      (sym (ap (λ (b : Bool). cond b (sets out 0 (output text)) out) e), sym (ap (λ (b : Bool). answering b (output text) (endOf text)) e))
 
-  -- the page and the answer after n bytes, and the room that they took
-  abbrev pub Ends : List ℕ → ℕ → Type 0
-  Ends put n = (put ≡ ranWithin out (output text)) × ((ran.Printed n ≡ ranTo out (output text)) × (655424 ≤ length out → length (output text) ≤ 655424))
+  -- the page and the answer after n bytes and a refusal on a line, and the room that they took
+  abbrev pub Ends : List ℕ → ℕ → ℕ → ℕ → Type 0
+  Ends put n number line =
+      (put ≡ ranWithin out (output text))
+      × ((ran.Printed n number line ≡ ranTo out (output text) (endOf text)) × (655424 ≤ length out → length (output text) ≤ 655424))
 
   module _ (fits : 655424 ≤ length out) where
-    -- what is printed is t
-    puts : (t : List ℕ) → output text ≡ t → (put : List ℕ) (n : ℕ) → put ≡ sets out 0 t → n ≡ length t → n ≤ 655424 → Ends put n
+    -- what is printed is t, and it ends so
+    puts : (t : List ℕ) (end : Ended) → output text ≡ t → endOf text ≡ end → (put : List ℕ) (n number line : ℕ)
+        → put ≡ sets out 0 t → n ≡ length t → n ≤ 655424 → endedBy number line ≡ end → Ends put n number line
     unfolding ranWithin ranTo
-    puts t e put n f g l =
-        let h = le-leb 655424 (length out) fits in (
+    puts t end e d put n number line f g l z =
+        let h = le-leb 655424 (length out) fits in
+        let q : ran.Printed n number line ≡ answering true (output text) (endOf text)
+        = ap (λ (k : ℕ). ran.Printed k number line) (g ∙ ap length (sym e)) ∙ ap (λ (x : Ended). ran.Printed (length (output text)) (x .number) (x .line)) (z ∙ sym d) in (
           f ∙ ap (sets out 0) (sym e) ∙ sym (ap (λ (b : Bool). cond b (sets out 0 (output text)) out) h),
-          (ap ran.Printed (g ∙ ap length (sym e)) ∙ sym (ap (λ (b : Bool). cond b (ran.Printed (length (output text))) ran.TooSmall) h), λ k. omega (arith, g, l, ap length e)),
+          (q ∙ sym (ap (λ (b : Bool). answering b (output text) (endOf text)) h), λ k. omega (arith, g, l, ap length e)),
         )
 
-    pub too-long : 65536 < length text → (put : List ℕ) (n : ℕ) → put ≡ sets out 0 (refusalText 18 1) → n ≡ 0 + length (refusalText 18 1) → n ≤ 655424 → Ends put n
+    pub too-long : 65536 < length text → (put : List ℕ) (n number line : ℕ)
+        → put ≡ sets out 0 (refusalText 18 1) → n ≡ 0 + length (refusalText 18 1) → n ≤ 655424 → endedBy number line ≡ endedBy 18 1 → Ends put n number line
     unfolding output
-    too-long h put n f g = puts (refusalText 18 1) (ap (λ (b : Bool). cond b (refusalText 18 1) (partsText (lines text))) (lt-ltb 65536 (length text) h)) put n f (omega (arith, g))
+    too-long h put n number line f g =
+        puts (refusalText 18 1) (endedBy 18 1) (ap (λ (b : Bool). cond b (refusalText 18 1) (partsText (lines text))) (lt-ltb 65536 (length text) h)) (too-long-end text h) put n number line f
+        (omega (arith, g))
 
-    pub ran-parts : length text ≤ 65536 → (put : List ℕ) (n : ℕ) → put ≡ sets out 0 (partsText (lines text)) → n ≡ length (partsText (lines text)) → n ≤ 655424 → Ends put n
+    pub ran-parts : length text ≤ 65536 → (put : List ℕ) (n number line : ℕ)
+        → put ≡ sets out 0 (partsText (lines text)) → n ≡ length (partsText (lines text)) → n ≤ 655424 → endedBy number line ≡ partsEnd (lines text) → Ends put n number line
     unfolding output
-    ran-parts h = puts (partsText (lines text)) (ap (λ (b : Bool). cond b (refusalText 18 1) (partsText (lines text))) (le-ltb 65536 (length text) h))
+    ran-parts h =
+        puts (partsText (lines text)) (partsEnd (lines text)) (ap (λ (b : Bool). cond b (refusalText 18 1) (partsText (lines text))) (le-ltb 65536 (length text) h)) (read-text-end text h)
 
 -- a count is that of a text that has room
-pub count-few : (out printed : List ℕ) (k : ℕ) → ran.Printed k ≡ ranTo out printed → (655424 ≤ length out → length printed ≤ 655424) → k ≤ 655424
+pub count-few : (out printed : List ℕ) (e : Ended) (k number line : ℕ) → ran.Printed k number line ≡ ranTo out printed e → (655424 ≤ length out → length printed ≤ 655424) → k ≤ 655424
 unfolding ranTo
-count-few out printed k e h = go (leb 655424 (length out)) refl e
+count-few out printed e k number line f h = go (leb 655424 (length out)) refl f
   where
-    go : (b : Bool) → leb 655424 (length out) ≡ b → ran.Printed k ≡ cond b (ran.Printed (length printed)) ran.TooSmall → k ≤ 655424
+    go : (b : Bool) → leb 655424 (length out) ≡ b → ran.Printed k number line ≡ cond b (ran.Printed (length printed) (e .number) (e .line)) ran.TooSmall → k ≤ 655424
     go true t f = let p : k ≡ length printed = cc in omega (arith, p, h (leb-true 655424 (length out) t))
     go false t f = absurd (let z : _≡_ {A = ℕ} 0 1 = cc in omega arith)

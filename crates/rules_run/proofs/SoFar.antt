@@ -278,7 +278,7 @@ joined-longer false b t more s = go (lines t) (lines-some t s)
     go (l ∷ ls) e = refl
 
 -- a text that ends with byte 10, and more after it
-lines-longer : (s u : List ℕ) → lines ((s ++ 10 ∷ []) ++ u) ≡ lines (s ++ 10 ∷ []) ++ lines u
+pub lines-longer : (s u : List ℕ) → lines ((s ++ 10 ∷ []) ++ u) ≡ lines (s ++ 10 ∷ []) ++ lines u
 lines-longer [] u = refl
 lines-longer (b ∷ s) u =
     ap (joined (eqb b 10) b) (lines-longer s u)

@@ -56,6 +56,46 @@ partsText ls = part (readOpening 0 ls) (λ o n rest. answer n (openingRefusal o)
 unfoldable pub output : List ℕ → List ℕ
 output text = cond (ltb 65536 (length text)) (refusalText 18 1) (partsText (lines text))
 
+-- ---- how a run ends, as values
+-- the number of the refusal and its line; 0 and 0 where nothing is refused
+pub record Ended : Type 0 where
+  pub number : ℕ
+  pub line : ℕ
+
+abbrev pub endedBy : ℕ → ℕ → Ended
+endedBy number line = record { number = number; line = line }
+
+-- how it ends with a part that is read: 17, or as its values say
+abbrev pub partEnd : {A : Type 0} → Reading A → (A → ℕ → List Line → Ended) → Ended
+partEnd (faulty line) values = endedBy 17 line
+partEnd (found a n ls) values = values a n ls
+
+-- with a part whose last line is line n: its refusal, or what comes later
+abbrev pub answerEnd : ℕ → ℕ → Ended → Ended
+answerEnd n zero later = later
+answerEnd n (suc number) later = endedBy (suc number) n
+
+-- with the next interval and those after it; at most f of them
+unfoldable pub intervalsEnd : ℕ → Hour → ℕ → List Line → Ended
+intervalsEnd zero h n ls = endedBy 0 0
+intervalsEnd (suc f) h n [] = endedBy 0 0
+intervalsEnd (suc f) h n (l ∷ ls) = partEnd (readInterval n (l ∷ ls)) (λ v m rest. answerEnd m (hourRefusal h v) (intervalsEnd f (hourAfter h v) m rest))
+
+abbrev pub hourEnd : Hour → ℕ → List Line → Ended
+hourEnd h n ls = intervalsEnd 5 h n ls
+
+unfoldable pub partsEnd : List Line → Ended
+partsEnd ls = partEnd (readOpening 0 ls) (λ o n rest. answerEnd n (openingRefusal o) (hourEnd (openedHour o) n rest))
+
+-- how the run of a text ends
+unfoldable pub endOf : List ℕ → Ended
+endOf text = cond (ltb 65536 (length text)) (endedBy 18 1) (partsEnd (lines text))
+
+-- what it prints last: "the line `refusal line`, then a line of the two values"
+abbrev pub lastLines : ℕ → ℕ → List ℕ
+lastLines zero line = []
+lastLines (suc number) line = refusalText (suc number) line
+
 -- ---- a run into a lent page
 -- room for four pages and the lines of a refusal
 abbrev pub runRoom : ℕ
@@ -65,6 +105,6 @@ runRoom = 655424
 unfoldable pub ranWithin : List ℕ → List ℕ → List ℕ
 ranWithin out printed = cond (leb runRoom (length out)) (sets out 0 printed) out
 
--- how many bytes were printed, or that the page has less room
-unfoldable pub ranTo : List ℕ → List ℕ → Ran
-ranTo out printed = cond (leb runRoom (length out)) (Printed (length printed)) TooSmall
+-- how many bytes were printed and how the run ended, or that the page has less room
+unfoldable pub ranTo : List ℕ → List ℕ → Ended → Ran
+ranTo out printed e = cond (leb runRoom (length out)) (Printed (length printed) (e .number) (e .line)) TooSmall

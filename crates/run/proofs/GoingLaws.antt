@@ -14,17 +14,18 @@ use Rattle.rules_text.proofs.LineLaws.{lines-some}
 use Rattle.rules_parts.specs.Parts.{readInterval}
 use Rattle.read_interval.specs.Shown.{reading}
 use Rattle.page.proofs.PageLaws.{Putting, putting-start, putting-next, putting-done}
-use Rattle.rules_run.specs.Run.{pageOf, intervals, hourText}
+use Rattle.rules_run.specs.Run.{pageOf, intervals, hourText, Ended, endedBy, intervalsEnd, hourEnd}
 use Rattle.rules_run.proofs.CountLaws.{Uses, interval-using}
 use Rattle.rules_run.proofs.RunLaws.{faulty-text, refused-text, accepted-text, none-text, accepts-few, accepts-counts}
+use Rattle.rules_run.proofs.EndLaws.{faulty-end, refused-end, accepted-end, none-end}
 
 pub positive : (n : ℕ) → (n ≡ 0 → ⊥) → 0 < n
 positive zero h = absurd (h refl)
 positive (suc n) h = omega arith
 
--- a text that was put, and the room that it took
-pub within : {A B C : Type 0} → A × B → C → A × (B × C)
-within e h = (e .0, (e .1, h))
+-- a text that was put, the room that it took, and how it ends
+pub within : {A B C D : Type 0} → A × B → C → D → A × ((B × C) × D)
+within e h d = (e .0, ((e .1, h), d))
 
 -- ---- what a part's answer says of the lines
 module _ {A : Type 0} (s : List ℕ) (a : A) (line next : ℕ) where
@@ -43,8 +44,9 @@ some-line s at l =
     omega (arith, ap length e)
 
 -- ---- how far a run over text s has come: interval i is next
-pub record Going (s out whole now : List ℕ) (hour : Hour) (at line i p : ℕ) : Type 0 where
+pub record Going (s out whole : List ℕ) (end : Ended) (now : List ℕ) (hour : Hour) (at line i p : ℕ) : Type 0 where
   pub put : Putting out 0 whole now p (intervals (6 - i) i hour line (lines (drop at s)))
+  pub ends : intervalsEnd (6 - i) hour line (lines (drop at s)) ≡ end
   pub few : p + 163840 ≤ i * 163840
   pub low : 1 ≤ i
   pub high : i ≤ 5
@@ -52,9 +54,10 @@ pub record Going (s out whole now : List ℕ) (hour : Hour) (at line i p : ℕ) 
   pub left : line + length (lines (drop at s)) ≤ 65536
 
 pub going-start : (s out : List ℕ) (hour : Hour) (at line : ℕ) → hour .standing .accepted ≡ 0 → line + length (lines (drop at s)) ≤ 65536
-    → Going s out (hourText hour line (lines (drop at s))) out hour at line 1 0
+    → Going s out (hourText hour line (lines (drop at s))) (hourEnd hour line (lines (drop at s))) out hour at line 1 0
 going-start s out hour at line e h = record {
   put = putting-start out 0 (hourText hour line (lines (drop at s)));
+  ends = refl;
   few = omega arith;
   low = omega arith;
   high = omega arith;
@@ -62,21 +65,30 @@ going-start s out hour at line e h = record {
   left = h;
 }
 
-module _ {s out whole now : List ℕ} {hour : Hour} {at line i p : ℕ} (w : Going s out whole now hour at line i p) where
+module _ {s out whole : List ℕ} {end : Ended} {now : List ℕ} {hour : Hour} {at line i p : ℕ} (w : Going s out whole end now hour at line i p) where
   -- the text has no more lines
-  pub going-end : length s ≤ at → (now ≡ sets out 0 whole) × (p ≡ length whole)
-  going-end h =
+  pub going-done : length s ≤ at → (now ≡ sets out 0 whole) × (p ≡ length whole)
+  going-done h =
       let e : lines (drop at s) ≡ [] = ap lines (drop-of-length-le s h) in
       let d = putting-done (w .put) (ap (intervals (6 - i) i hour line) e ∙ none-text (6 - i) i hour line) in
       (d .0, omega (arith, d .1))
 
+  pub done-end : length s ≤ at → endedBy 0 0 ≡ end
+  done-end h =
+      let e : lines (drop at s) ≡ [] = ap lines (drop-of-length-le s h) in
+      sym (ap (intervalsEnd (6 - i) hour line) e ∙ none-end (6 - i) hour line) ∙ w .ends
+
   fuel : 6 - i ≡ suc (5 - i)
   fuel = omega (arith, w .high)
 
+  -- the whole ends as the rest does
+  end-is : (e : Ended) → intervalsEnd (suc (5 - i)) hour line (lines (drop at s)) ≡ e → e ≡ end
+  end-is e h = sym h ∙ ap (λ (n : ℕ). intervalsEnd n hour line (lines (drop at s))) (sym fuel) ∙ w .ends
+
   -- the rest is put at once
-  ends : (t put : List ℕ) (r : ℕ) → intervals (suc (5 - i)) i hour line (lines (drop at s)) ≡ t → put ≡ sets now p t → r ≡ p + length t
+  rest-put : (t put : List ℕ) (r : ℕ) → intervals (suc (5 - i)) i hour line (lines (drop at s)) ≡ t → put ≡ sets now p t → r ≡ p + length t
       → (put ≡ sets out 0 whole) × (r ≡ length whole)
-  ends t put r e f g =
+  rest-put t put r e f g =
       let d = putting-done (putting-next (w .put) t [] put r (ap (λ (n : ℕ). intervals n i hour line (lines (drop at s))) fuel ∙ e ∙ sym (append-nil t)) f g) refl in
       (d .0, omega (arith, d .1))
 
@@ -84,14 +96,23 @@ module _ {s out whole now : List ℕ} {hour : Hour} {at line i p : ℕ} (w : Goi
     -- a faulty line ends the run
     pub going-faulty : (k : ℕ) (put : List ℕ) (r : ℕ) → readInterval line (lines (drop at s)) ≡ faulty k → put ≡ sets now p (refusalText 17 k) → r ≡ p + length (refusalText 17 k)
         → (put ≡ sets out 0 whole) × (r ≡ length whole)
-    going-faulty k put r e = ends (refusalText 17 k) put r (faulty-text (5 - i) i hour line (lines (drop at s)) (some-line s at l) k e)
+    going-faulty k put r e = rest-put (refusalText 17 k) put r (faulty-text (5 - i) i hour line (lines (drop at s)) (some-line s at l) k e)
+
+    pub faulty-ends : (k : ℕ) → readInterval line (lines (drop at s)) ≡ faulty k → endedBy 17 k ≡ end
+    faulty-ends k e = end-is (endedBy 17 k) (faulty-end (5 - i) hour line (lines (drop at s)) (some-line s at l) k e)
 
     module _ (v : Interval) (m : ℕ) (rest : List Line) (e : readInterval line (lines (drop at s)) ≡ found v m rest) where
       -- so does a refusal
       pub going-refused : (k : ℕ) (put : List ℕ) (r : ℕ) → hourRefusal hour v ≡ k → 0 < k → put ≡ sets now p (refusalText k m) → r ≡ p + length (refusalText k m)
           → (put ≡ sets out 0 whole) × (r ≡ length whole)
       going-refused k put r g h =
-          ends (refusalText k m) put r (refused-text (5 - i) i hour line (lines (drop at s)) (some-line s at l) v m rest e k g h)
+          rest-put (refusalText k m) put r (refused-text (5 - i) i hour line (lines (drop at s)) (some-line s at l) v m rest e k g h)
+
+      pub refused-ends : (k : ℕ) → hourRefusal hour v ≡ k → 0 < k → endedBy k m ≡ end
+      refused-ends k g h = end-is (endedBy k m) (refused-end (5 - i) hour line (lines (drop at s)) (some-line s at l) v m rest e k g h)
+
+      pub accepted-ends : hourRefusal hour v ≡ 0 → intervalsEnd (5 - i) (hourAfter hour v) m rest ≡ end
+      accepted-ends g = end-is _ (accepted-end (5 - i) hour line (lines (drop at s)) (some-line s at l) v m rest e g)
 
       -- the lines are used up
       pub left-after : m + length rest ≤ 65536
@@ -111,7 +132,7 @@ module _ {s out whole now : List ℕ} {hour : Hour} {at line i p : ℕ} (w : Goi
   -- an accepted interval's page is put, and the next is read
   pub going-next : at < length s → (v : Interval) (m next : ℕ) → readInterval line (lines (drop at s)) ≡ found v m (lines (drop next s)) → hourRefusal hour v ≡ 0
       → (after : Hour) (put : List ℕ) (q : ℕ) → after ≡ hourAfter hour v → put ≡ sets now p (pageOf i hour v) → q ≡ p + length (pageOf i hour v) → q ≤ p + 163840
-      → Going s out whole put after next m (i + 1) q
+      → Going s out whole end put after next m (i + 1) q
   going-next l v m next e g after put q a b c d = record {
     put =
         subst (λ (h : Hour). Putting out 0 whole put q (intervals (6 - (i + 1)) (i + 1) h m (lines (drop next s)))) (sym a)
@@ -119,6 +140,10 @@ module _ {s out whole now : List ℕ} {hour : Hour} {at line i p : ℕ} (w : Goi
         (subst (λ (n : ℕ). Putting out 0 whole put q (intervals n (suc i) (hourAfter hour v) m (lines (drop next s)))) (let z : 5 - i ≡ 6 - suc i = omega arith in z)
         (putting-next (w .put) (pageOf i hour v) (intervals (5 - i) (suc i) (hourAfter hour v) m (lines (drop next s))) put q
         (ap (λ (n : ℕ). intervals n i hour line (lines (drop at s))) fuel ∙ accepted-text (5 - i) i hour line (lines (drop at s)) (some-line s at l) v m (lines (drop next s)) e g) b c)));
+    ends =
+        ap (λ (h : Hour). intervalsEnd (6 - (i + 1)) h m (lines (drop next s))) a
+        ∙ ap (λ (n : ℕ). intervalsEnd n (hourAfter hour v) m (lines (drop next s))) (let z : 6 - (i + 1) ≡ 5 - i = omega arith in z)
+        ∙ accepted-ends l v m (lines (drop next s)) e g;
     few = omega (arith, w .few, d);
     low = omega arith;
     high = omega (arith, going-few l v m (lines (drop next s)) e g);

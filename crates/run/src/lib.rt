@@ -17,7 +17,7 @@ ghost use Rattle.rules_text.specs.Numbers.{lines};
 ghost use Rattle.rules_text.specs.Printing.{refusalText};
 ghost use Rattle.rules_page.specs.Pages.{verdictText, curveText};
 ghost use Rattle.engine.specs.Hours.{asHour};
-ghost use Rattle.rules_run.specs.Run.{hourText, partsText, output, runRoom, ranWithin, ranTo};
+ghost use Rattle.rules_run.specs.Run.{hourText, partsText, output, endedBy, hourEnd, partsEnd, endOf, runRoom, ranWithin, ranTo};
 
 // Room for what any text prints: four pages and the lines of a refusal.
 pub const ROOM: usize = 655_424;
@@ -25,14 +25,27 @@ pub const ROOM: usize = 655_424;
 // A longer text is refused.
 pub const MAX_TEXT: usize = 65_536;
 
-// Puts the lines of a refusal at an offset, and answers the offset after them.
-fn put_refusal(out: &mut [u8], at: usize, number: u64, line: usize) -> usize
+// Where what was printed ends, and the number and line of the refusal that ends it; 0 and 0 where nothing is refused.
+struct Ending {
+    at: usize,
+    number: u64,
+    line: usize,
+}
+
+// Puts the lines of a refusal at an offset, and answers the offset after them, the number and the line.
+fn put_refusal(out: &mut [u8], at: usize, number: u64, line: usize) -> Ending
     requires { ⌜ (at + 64 ≤ length (now out)) × ((number ≤ 18) × (line ≤ 200000)) ⌝ }
-    ensures { λ r. ⌜ (now (out .exit) ≡ sets (now (out .entry)) at (refusalText number line)) × ((r ≡ at + length (refusalText number line)) × (r ≤ at + 64)) ⌝ }
+    ensures page { λ r. ⌜ now (out .exit) ≡ sets (now (out .entry)) at (refusalText number line) ⌝ }
+    ensures next { λ r. ⌜ (r .at ≡ at + length (refusalText number line)) × (r .at ≤ at + 64) ⌝ }
+    ensures end { λ r. ⌜ endedBy (r .number) (r .line) ≡ endedBy number line ⌝ }
 {
     match page::print_refusal(out, at, number, line as u64) {
-        Printed::To(next) => next,
-        Printed::Full => at,
+        Printed::To(next) => Ending {
+            at: next,
+            number,
+            line,
+        },
+        Printed::Full => Ending { at, number, line },
     }
 }
 
@@ -71,7 +84,7 @@ fn put_curves(
     }
 }
 
-// Puts what the intervals of a fresh hour print, from an offset of the text before which `line` lines stand: each is read, taken and printed before the next.
+// Puts what the intervals of a fresh hour print and answers how that ends, from an offset of the text before which `line` lines stand: each is read, taken and printed before the next.
 // Market and rows stay as they are, and the standing alone changes.
 fn put_intervals(
     text: &[u8],
@@ -79,11 +92,13 @@ fn put_intervals(
     lines_before: usize,
     fresh: Hour,
     out: &mut [u8],
-) -> usize
+) -> Ending
     requires fresh { ⌜ fresh .standing .accepted ≡ 0 ⌝ }
     requires room { ⌜ 655424 ≤ length (now out) ⌝ }
     requires text { ⌜ «lines_before» + length (lines (drop start (now text))) ≤ 65536 ⌝ }
-    ensures { λ r. ⌜ (now (out .exit) ≡ sets (now (out .entry)) 0 (hourText (asHour fresh) «lines_before» (lines (drop start (now (text .entry)))))) × ((r ≡ length (hourText (asHour fresh) «lines_before» (lines (drop start (now (text .entry)))))) × (r ≤ 655424)) ⌝ }
+    ensures page { λ r. ⌜ now (out .exit) ≡ sets (now (out .entry)) 0 (hourText (asHour fresh) «lines_before» (lines (drop start (now (text .entry))))) ⌝ }
+    ensures next { λ r. ⌜ (r .at ≡ length (hourText (asHour fresh) «lines_before» (lines (drop start (now (text .entry)))))) × (r .at ≤ 655424) ⌝ }
+    ensures end { λ r. ⌜ endedBy (r .number) (r .line) ≡ hourEnd (asHour fresh) «lines_before» (lines (drop start (now (text .entry)))) ⌝ }
 {
     let market = fresh.market;
     let rows = fresh.rows;
@@ -113,14 +128,20 @@ fn put_intervals(
         line = read.line;
         i += 1;
     }
-    p
+    Ending {
+        at: p,
+        number: 0,
+        line: 0,
+    }
 }
 
-// Puts what the parts of a text print.
-fn put_parts(text: &[u8], out: &mut [u8]) -> usize
+// Puts what the parts of a text print, and answers how that ends.
+fn put_parts(text: &[u8], out: &mut [u8]) -> Ending
     requires room { ⌜ 655424 ≤ length (now out) ⌝ }
     requires text { ⌜ length (now text) ≤ 65536 ⌝ }
-    ensures { λ r. ⌜ (now (out .exit) ≡ sets (now (out .entry)) 0 (partsText (lines (now (text .entry))))) × ((r ≡ length (partsText (lines (now (text .entry))))) × (r ≤ 655424)) ⌝ }
+    ensures page { λ r. ⌜ now (out .exit) ≡ sets (now (out .entry)) 0 (partsText (lines (now (text .entry)))) ⌝ }
+    ensures next { λ r. ⌜ (r .at ≡ length (partsText (lines (now (text .entry))))) × (r .at ≤ 655424) ⌝ }
+    ensures end { λ r. ⌜ endedBy (r .number) (r .line) ≡ partsEnd (lines (now (text .entry))) ⌝ }
 {
     let read = opening_at(text, 0, 0);
     let fault = read.fault;
@@ -136,17 +157,20 @@ fn put_parts(text: &[u8], out: &mut [u8]) -> usize
     put_intervals(text, read.next, read.line, hour, out)
 }
 
-// Runs a text: prints into the lent page what paper 01 says of it, from the page's first byte on, and answers how many bytes that took.
+// Runs a text: prints into the lent page what paper 01 says of it, from the page's first byte on, and answers how many bytes that took, with the number and line
+// of the refusal, which are 0 and 0 where nothing is refused.
 pub fn run(text: &[u8], out: &mut [u8]) -> Ran
     ensures buffer { λ r. ⌜ now (out .exit) ≡ ranWithin (now (out .entry)) (output (now (text .entry))) ⌝ }
-    ensures count { λ r. ⌜ r ≡ ranTo (now (out .entry)) (output (now (text .entry))) ⌝ }
+    ensures count { λ r. ⌜ r ≡ ranTo (now (out .entry)) (output (now (text .entry))) (endOf (now (text .entry))) ⌝ }
     ensures whole { λ r. ⌜ (runRoom ≤ length (now (out .entry)) → length (output (now (text .entry))) ≤ runRoom) ⌝ }
 {
     if out.len() < ROOM {
         return Ran::TooSmall;
     }
     if MAX_TEXT < text.len() {
-        return Ran::Printed(put_refusal(out, 0, 18, 1));
+        let end = put_refusal(out, 0, 18, 1);
+        return Ran::Printed(end.at, end.number, end.line);
     }
-    Ran::Printed(put_parts(text, out))
+    let end = put_parts(text, out);
+    Ran::Printed(end.at, end.number, end.line)
 }

@@ -45,7 +45,7 @@ fn open_file(name: &[u8], ending: &[u8]) -> i32 {
 fn printed(text: &[u8], page: &mut [u8]) -> usize
     ensures { λ r. ⌜ Counts r (now (page .exit)) ⌝ }
 {
-    let Ran::Printed(k) = run::run(text, page) else {
+    let Ran::Printed(k, _, _) = run::run(text, page) else {
         return 0;
     };
     within(k, page)

@@ -5,7 +5,7 @@ use native.Mathlib.Omega.{arith}
 use borrow.Author.Needs.{needs}
 use mir.Syntax.{w64}
 use mir.Facts.{toZ-pos}
-use Rattle.rules_run.specs.Run.{output}
+use Rattle.rules_run.specs.Run.{output, endOf}
 use Rattle.rules_run.proofs.RunLaws.{count-few}
 use Rattle.rules_library.specs.Answers.{ranNumber}
 use Rattle.noskjerf.proofs.noskjerf_run.Statement.{statement}
@@ -22,7 +22,7 @@ few : (c : tie.After-known-told) → c .before .count .given .0 .0 ≤ 655424
 few c =
     let p = c .before .before .before .before .before in
     let a = p .before .before .before .before .args in
-    count-few (a .page .now) (output (a .text .now)) (c .before .count .given .0 .0) (sym (c .before .count .given .1) ∙ p .run .ensures .1 .0) (p .run .ensures .1 .1)
+    count-few (a .page .now) (output (a .text .now)) (endOf (a .text .now)) (c .before .count .given .0 .0) _ _ (sym (c .before .count .given .1) ∙ p .run .ensures .1 .0) (p .run .ensures .1 .1)
 
 cast-result : tie.Need-cast-result
 cast-result c = record { sfits = omega (arith, few c) }

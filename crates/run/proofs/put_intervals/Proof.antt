@@ -1,5 +1,5 @@
 -- `run::put_intervals` meets its contract. Assumes nothing.
-use Prim.Native.Nat.{ℕ, _+_, _-_, _≤_, min}
+use Prim.Native.Nat.{ℕ, _+_, _-_, _≤_, _<_, min}
 use mathlib.Core.Path.{_≡_, sym, ap, ap₂, _∙_}
 use mathlib.Core.List.{List, _++_}
 use native.Mathlib.Omega.{arith}
@@ -21,9 +21,9 @@ use Rattle.read_interval.specs.Shown.{reading}
 use Rattle.rules_curve.proofs.RefusalLaws.{refused-number}
 use Rattle.rules_page.specs.Pages.{verdictText, curveText}
 use Rattle.rules_text.proofs.ListLaws.{sets-append}
-use Rattle.rules_run.specs.Run.{pageLeaving, pageOf, hourText}
+use Rattle.rules_run.specs.Run.{pageLeaving, pageOf, hourText, hourEnd}
 use Rattle.rules_run.proofs.RunLaws.{number-few}
-use Rattle.run.proofs.GoingLaws.{Going, positive, within, refused-room, read-faulty, read-found, going-start, going-end, going-faulty, going-refused, going-few, faulty-few, left-after, going-next}
+use Rattle.run.proofs.GoingLaws.{Going, positive, within, refused-room, read-faulty, read-found, going-start, going-done, going-faulty, going-refused, done-end, faulty-ends, refused-ends, going-few, faulty-few, left-after, going-next}
 use Rattle.run.proofs.put_intervals.Statement.{statement}
 use Rattle.run.proofs.put_intervals.Tie as tie
 
@@ -33,7 +33,7 @@ hourOf market rows standing = record { market = market; rows = rows; standing = 
 
 abbrev Inv-loop : tie.InvT-loop
 Inv-loop text start lines-before out₀ market rows standing₀ at₀ line₀ i₀ p₀ out standing at line i p =
-    Going text out₀ (hourText (hourOf market rows standing₀) line₀ (lines (drop at₀ text))) out (hourOf market rows standing) at line i p
+    Going text out₀ (hourText (hourOf market rows standing₀) line₀ (lines (drop at₀ text))) (hourEnd (hourOf market rows standing₀) line₀ (lines (drop at₀ text))) out (hourOf market rows standing) at line i p
 
 abbrev μ-loop : tie.MeasureT-loop
 μ-loop text start lines-before out₀ market rows standing₀ at₀ line₀ i₀ p₀ out standing at line i p = 6 - i
@@ -102,7 +102,9 @@ returns c =
     let l = t .before .before .before in
     let w = l .loop .inv in
     let e = q .put-refusal .ensures in
-    within (going-faulty w (t .before .before .loop-test .taken) (t .before .interval-at .result .fault) (q .put-refusal .last .0) (q .put-refusal .result) (is-faulty t) (e .0) (e .1 .0)) (refused-room w (e .1 .1))
+    let k = t .before .interval-at .result .fault in
+    let more = t .before .before .loop-test .taken in
+    within (going-faulty w more k (q .put-refusal .last .0) (q .put-refusal .result .at) (is-faulty t) (e .0) (e .1 .0 .0)) (refused-room w (e .1 .0 .1)) (e .1 .1 ∙ faulty-ends w more k (is-faulty t))
 
 same-length : tie.Need-same-length Inv-loop μ-loop
 same-length c =
@@ -137,10 +139,10 @@ returns-2 c =
     let l = e .before .before .before in
     let w = l .loop .inv in
     let p = q .put-refusal2 .ensures in
-    within
-    (going-refused w (e .before .before .loop-test .taken) _ _ _ (is-found e) (n .refusal-number .result) (q .put-refusal2 .last .0) (q .put-refusal2 .result) (refusal n)
-    (omega (arith, n .refusal-number .ensures, refused-number (n .before .before .before .outcome .given .0 .0))) (p .0) (p .1 .0))
-    (refused-room w (p .1 .1))
+    let more = e .before .before .loop-test .taken in
+    let some : 0 < n .refusal-number .result = omega (arith, n .refusal-number .ensures, refused-number (n .before .before .before .outcome .given .0 .0)) in
+    within (going-refused w more _ _ _ (is-found e) (n .refusal-number .result) (q .put-refusal2 .last .0) (q .put-refusal2 .result .at) (refusal n) some (p .0) (p .1 .0 .0))
+    (refused-room w (p .1 .0 .1)) (p .1 .1 ∙ refused-ends w more _ _ _ (is-found e) (n .refusal-number .result) (refusal n) some)
 
 same-length-2 : tie.Need-same-length-2 Inv-loop μ-loop
 same-length-2 c =
@@ -209,7 +211,8 @@ same-length-3 c = c .before .loop .inv .put .long
 returns-3 : tie.Need-returns-3 Inv-loop μ-loop
 returns-3 c =
     let w = c .before .loop .inv in
-    within (going-end w (omega (arith, c .loop-test .left))) (omega (arith, w .few, w .high))
+    let over : length (begin (c .before) .args .text .now) ≤ c .before .loop .at = omega (arith, c .loop-test .left) in
+    within (going-done w over) (omega (arith, w .few, w .high)) (done-end w over)
 
 pub put-intervals-spec : {M : Type 1} → statement M
 put-intervals-spec =

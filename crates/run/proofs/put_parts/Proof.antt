@@ -1,5 +1,5 @@
 -- `run::put_parts` meets its contract. Assumes nothing.
-use Prim.Native.Nat.{ℕ, _+_, _≤_}
+use Prim.Native.Nat.{ℕ, _+_, _≤_, _<_}
 use mathlib.Core.Path.{_≡_, sym, ap, _∙_}
 use mathlib.Core.List.{List}
 use native.Mathlib.Omega.{arith}
@@ -16,8 +16,9 @@ use Rattle.rules_text.specs.Tables.{faulty, found}
 use Rattle.rules_text.specs.Printing.{refusalText}
 use Rattle.rules_text.proofs.LineLaws.{lines-few}
 use Rattle.rules_parts.specs.Parts.{readOpening}
-use Rattle.rules_run.specs.Run.{hourText}
+use Rattle.rules_run.specs.Run.{hourText, Ended, endedBy, hourEnd}
 use Rattle.rules_run.proofs.RunLaws.{number-few, parts-faulty, parts-faulty-few, parts-refused, parts-accepted, parts-left, opened-fresh}
+use Rattle.rules_run.proofs.EndLaws.{parts-faulty-end, parts-refused-end, parts-accepted-end}
 use Rattle.run.proofs.GoingLaws.{positive, read-faulty, read-found}
 use Rattle.run.proofs.put_parts.Statement.{statement}
 use Rattle.run.proofs.put_parts.Tie as tie
@@ -39,9 +40,10 @@ is-found e =
 left : (e : tie.Else1) → e .before .opening-at .result .line + length (lines (drop (e .before .opening-at .result .next) (text (e .before)))) ≤ 65536
 left e = omega (arith, parts-left _ _ _ _ (is-found e), lines-few (text (e .before)), e .before .before .before .before .pre .1)
 
--- what was put is the text t
-puts : (out put : List ℕ) (t whole : List ℕ) (r : ℕ) → whole ≡ t → put ≡ sets out 0 t → r ≡ 0 + length t → r ≤ 655424 → (put ≡ sets out 0 whole) × ((r ≡ length whole) × (r ≤ 655424))
-puts out put t whole r e f g h = (f ∙ ap (sets out 0) (sym e), (omega (arith, g, ap length e), h))
+-- what was put is the text t, and it ends so
+puts : (out put : List ℕ) (t whole : List ℕ) (r : ℕ) (last end ending : Ended) → whole ≡ t → end ≡ ending → put ≡ sets out 0 t → r ≡ 0 + length t → r ≤ 655424 → last ≡ ending
+    → (put ≡ sets out 0 whole) × (((r ≡ length whole) × (r ≤ 655424)) × (last ≡ end))
+puts out put t whole r last end ending e d f g h z = (f ∙ ap (sets out 0) (sym e), ((omega (arith, g, ap length e), h), z ∙ sym d))
 
 -- the number of a refusal
 refusal : (n : tie.After-refusal-number) → openingRefusal (n .before .before .before .before .before .before .before .opening-at .result .opening) ≡ n .refusal-number .result
@@ -71,7 +73,10 @@ returns : tie.Need-returns
 returns c =
     let q = c .before .before in
     let t = q .before .before in
-    puts (t .before .before .before .before .args .out .now) (q .put-refusal .last .0) (refusalText 17 (t .before .opening-at .result .fault)) _ (q .put-refusal .result) (parts-faulty _ _ (is-faulty t)) (q .put-refusal .ensures .0) (q .put-refusal .ensures .1 .0) (omega (arith, q .put-refusal .ensures .1 .1))
+    let k = t .before .opening-at .result .fault in
+    let p = q .put-refusal .ensures in
+    puts (t .before .before .before .before .args .out .now) (q .put-refusal .last .0) (refusalText 17 k) _ (q .put-refusal .result .at) _ _ (endedBy 17 k) (parts-faulty _ _ (is-faulty t)) (parts-faulty-end _ _ (is-faulty t))
+    (p .0) (p .1 .0 .0) (omega (arith, p .1 .0 .1)) (p .1 .1)
 
 open-requires : tie.Need-open-requires
 open-requires c κs = search needs
@@ -101,8 +106,12 @@ returns-2 c =
     let q = c .before .before in
     let n = q .before in
     let e = opened n in
-    puts (e .before .before .before .before .args .out .now) (q .put-refusal2 .last .0) (refusalText (n .refusal-number .result) (e .before .opening-at .result .line)) _ (q .put-refusal2 .result)
-    (parts-refused _ _ _ _ (is-found e) (n .refusal-number .result) (refusal n) (omega (arith, n .refusal-number .ensures, refused-number (n .before .before .before .outcome .given .0 .0)))) (q .put-refusal2 .ensures .0) (q .put-refusal2 .ensures .1 .0) (omega (arith, q .put-refusal2 .ensures .1 .1))
+    let k = n .refusal-number .result in
+    let line = e .before .opening-at .result .line in
+    let some : 0 < k = omega (arith, n .refusal-number .ensures, refused-number (n .before .before .before .outcome .given .0 .0)) in
+    let p = q .put-refusal2 .ensures in
+    puts (e .before .before .before .before .args .out .now) (q .put-refusal2 .last .0) (refusalText k line) _ (q .put-refusal2 .result .at) _ _ (endedBy k line)
+    (parts-refused _ _ _ _ (is-found e) k (refusal n) some) (parts-refused-end _ _ _ _ (is-found e) k (refusal n) some) (p .0) (p .1 .0 .0) (omega (arith, p .1 .0 .1)) (p .1 .1)
 
 enum-told : tie.Need-enum-told
 enum-told c = search needs
@@ -134,9 +143,12 @@ returns-3 c =
     let t = q .before .before .before in
     let e = begun t in
     let r = e .before .opening-at .result in
-    puts (e .before .before .before .before .args .out .now) (q .put-intervals .last .1 .1 .1 .1 .0) (rest t) _ (q .put-intervals .result)
-    (parts-accepted _ _ _ _ (is-found e) (none t) ∙ ap (λ (h : Hour). hourText h (r .line) (lines (drop (r .next) (text (e .before))))) (sym (t .before .before .open .ensures .1)))
-    (q .put-intervals .ensures .0) (omega (arith, q .put-intervals .ensures .1 .0)) (q .put-intervals .ensures .1 .1)
+    let same = sym (t .before .before .open .ensures .1) in
+    let p = q .put-intervals .ensures in
+    puts (e .before .before .before .before .args .out .now) (q .put-intervals .last .1 .1 .1 .1 .0) (rest t) _ (q .put-intervals .result .at) _ _ _
+    (parts-accepted _ _ _ _ (is-found e) (none t) ∙ ap (λ (h : Hour). hourText h (r .line) (lines (drop (r .next) (text (e .before))))) same)
+    (parts-accepted-end _ _ _ _ (is-found e) (none t) ∙ ap (λ (h : Hour). hourEnd h (r .line) (lines (drop (r .next) (text (e .before))))) same)
+    (p .0) (omega (arith, p .1 .0 .0)) (p .1 .0 .1) (p .1 .1)
 
 pub put-parts-spec : {M : Type 1} → statement M
 put-parts-spec =

@@ -1,6 +1,6 @@
 -- `run::put_refusal` meets its contract. Assumes nothing.
 use Prim.Native.Nat.{ℕ, _+_, _≤_}
-use mathlib.Core.Path.{_≡_, ap, _∙_}
+use mathlib.Core.Path.{_≡_, refl, ap, _∙_}
 use mathlib.Core.List.{List}
 use native.Mathlib.Omega.{arith}
 use lib.ListN.{length}
@@ -35,7 +35,7 @@ returns c =
     let e : refusalText (printable (a .number)) (printable (a .line)) ≡ refusalText (a .number) (a .line) = shown (a .number) (a .line) (p .before .before .before .pre .1 .0) (p .before .before .before .pre .1 .1) in
     let g = put-to refusalRoom (a .out .now) (a .at) (refusalText (printable (a .number)) (printable (a .line))) (p .print-refusal .last .0) (p .print-refusal .result) (p .before .before .before .pre .0) (p .print-refusal .ensures .0) (p .print-refusal .ensures .1) (c .before .next .given .0 .0) (c .before .next .given .1) in
     let n = g .1 ∙ ap (λ (t : List ℕ). a .at + length t) e in
-    (g .0 ∙ ap (sets (a .out .now) (a .at)) e, (n, omega (arith, n, refusal-few (a .number) (a .line))))
+    (g .0 ∙ ap (sets (a .out .now) (a .at)) e, ((n, omega (arith, n, refusal-few (a .number) (a .line))), refl))
 
 same-length-2 : tie.Need-same-length-2
 same-length-2 c = search needs

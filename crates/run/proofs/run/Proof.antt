@@ -30,7 +30,9 @@ returns-2 c =
     let q = c .before .before in
     let e = q .before .before .before in
     let s = e .before .before .before in
-    too-long (s .args .out .now) (s .args .text .now) (e .if1 .left) (q .before .before .if2 .taken) (q .put-refusal .last .0) (q .put-refusal .result) (q .put-refusal .ensures .0) (q .put-refusal .ensures .1 .0) (omega (arith, q .put-refusal .ensures .1 .1))
+    let p = q .put-refusal .ensures in
+    too-long (s .args .out .now) (s .args .text .now) (e .if1 .left) (q .before .before .if2 .taken) (q .put-refusal .last .0) (q .put-refusal .result .at) (q .put-refusal .result .number) (q .put-refusal .result .line)
+    (p .0) (p .1 .0 .0) (omega (arith, p .1 .0 .1)) (p .1 .1)
 
 put-parts-requires : tie.Need-put-parts-requires
 put-parts-requires c κs = (c .before .before .if1 .left, c .before .if2 .left)
@@ -46,7 +48,9 @@ returns-3 c =
     let q = c .before .before in
     let e = q .before .before .before in
     let s = e .before .before .before in
-    ran-parts (s .args .out .now) (s .args .text .now) (e .if1 .left) (q .before .before .if2 .left) (q .put-parts .last .1 .0) (q .put-parts .result) (q .put-parts .ensures .0) (q .put-parts .ensures .1 .0) (q .put-parts .ensures .1 .1)
+    let p = q .put-parts .ensures in
+    ran-parts (s .args .out .now) (s .args .text .now) (e .if1 .left) (q .before .before .if2 .left) (q .put-parts .last .1 .0) (q .put-parts .result .at) (q .put-parts .result .number) (q .put-parts .result .line)
+    (p .0) (p .1 .0 .0) (p .1 .0 .1) (p .1 .1)
 
 pub run-spec : {M : Type 1} → statement M
 run-spec =
