@@ -1,0 +1,167 @@
+-- Paper 01, Text: the ten tables, their names lines and columns, and which value each becomes. Assumes nothing.
+use mathlib.Core.Bool.{Bool, true, false, _&&_}
+use mathlib.Core.List.{List, [], _∷_, _++_, map, List·Memᴰ, List·Memᴰ·head, List·Memᴰ·tail, List·Memᴰ·not-nil, List·Memᴰ·cases-cons}
+use mathlib.Core.Logic.{_⊎_, inl, inr, ⊎-elim}
+use mathlib.Core.Option.{Option, none, some}
+use mathlib.Core.Path.{_≡_, refl, ap, ap₂, _∙_}
+use Prim.Native.Nat.{ℕ, suc, _+_, _*_, _/_, _%_, _<_}
+use native.Mathlib.Omega.{arith}
+use borrow.Author.Tests.{eqb-true, eq-eqb}
+use lib.Dec.{eqb}
+use lib.IntN.{ℤ, pos}
+use lib.ListN.{length, getD}
+use Rattle.rules_number.specs.Over.{listed, padded}
+use Rattle.rules_number.proofs.OverLaws.{listed-at}
+use Rattle.rules_curve.specs.declared.RawStep.{RawStep}
+use Rattle.rules_cost.specs.declared.Point.{Point}
+use Rattle.rules_opening.specs.declared.Source.the-variants as source
+use Rattle.rules_opening.specs.declared.Resource.{Resource}
+use Rattle.rules_text.specs.Numbers.{Line, bytes}
+use Rattle.rules_text.specs.Printing.{lineText}
+use Rattle.rules_text.specs.Spelled.{together, countedRows, groupedRows}
+use Rattle.rules_parts.specs.Texts.{GivenResource, GivenOpening, GivenFactor, GivenInterval, openingLines, openingText, openingIs, resourceIs, intervalLines, intervalText, intervalIs, parameterLine, parameterIs, factorOf}
+
+-- "Each table is a line of names, then lines of values in that order"
+abbrev table : Line → List (List ℤ) → List Line
+table names rows = names ∷ map lineText rows
+
+-- ---- an opening's six tables
+pub opening-tables : (o : GivenOpening) → openingLines o
+    ≡ table (bytes "month\n") ((o .month ∷ []) ∷ [])
+    ++ (table (bytes "portfolio seller\n") (countedRows (λ s. s ∷ []) 0 (o .sellers))
+    ++ (table (bytes "resource portfolio start\n") (countedRows (λ r. r .portfolio ∷ r .start ∷ []) 0 (o .resources))
+    ++ (table (bytes "resource end price\n") (together (groupedRows (λ r. map (λ s. s .end ∷ s .price ∷ []) (r .steps)) 0 (o .resources)))
+    ++ (table (bytes "resource mw heat\n") (together (groupedRows (λ r. map (λ p. p .mw ∷ p .heat ∷ []) (r .points)) 0 (o .resources)))
+    ++ table (bytes "resource gas rate allowance om msc soc fee\n") (countedRows (λ r. r .gas ∷ r .rate ∷ r .allowance ∷ r .om ∷ r .msc ∷ r .soc ∷ r .fee ∷ []) 0 (o .resources))))))
+unfolding openingLines
+opening-tables o = refl
+
+-- ---- and its values
+abbrev noStep : RawStep
+noStep = record { end = pos 0; price = pos 0 }
+
+abbrev noPoint : Point
+noPoint = record { mw = pos 0; heat = pos 0 }
+
+pub resource-values : (r : GivenResource) → resourceIs r ≡ record {
+  portfolio = r .portfolio;
+  bid = record { start = r .start; count = length (r .steps); steps = padded 10 noStep (r .steps) };
+  source = source.Costs;
+  costs = record {
+    count = length (r .points);
+    points = padded 11 noPoint (r .points);
+    gas = r .gas;
+    rate = r .rate;
+    allowance = r .allowance;
+    om = r .om;
+    msc = r .msc;
+    soc = r .soc;
+    fee = r .fee;
+  };
+  pack = record { start = pos 0; count = 0; steps = padded 10 noStep [] };
+}
+resource-values r = refl
+
+pub opening-values : (o : GivenOpening)
+    → (openingIs o .month ≡ o .month) × (openingIs o .portfolios ≡ length (o .sellers)) × (openingIs o .sellers ≡ padded 16 (pos 0) (o .sellers))
+    × (openingIs o .resources ≡ length (o .resources)) × ((b : Resource) × (openingIs o .list ≡ padded 64 b (map resourceIs (o .resources))))
+unfolding openingIs
+opening-values o = (refl, refl, refl, refl, (_, refl))
+
+-- ---- an interval's four tables: "Parameter "-" alone is missing and means 100"
+pub interval-tables : (i : GivenInterval) → (line : Line) → (i .parameter ≡ none → line ≡ bytes "-\n") → ((z : ℤ) → i .parameter ≡ some z → line ≡ lineText (z ∷ []))
+    → intervalLines i
+    ≡ table (bytes "constraint shadow\n") (countedRows (λ s. s ∷ []) 0 (i .shadows))
+    ++ (table (bytes "resource lmp dispatch available floor\n") (countedRows (λ x. x .lmp ∷ x .dispatch ∷ x .available ∷ x .floor ∷ []) 0 (i .outputs))
+    ++ (table (bytes "resource constraint factor\n") (map (λ f. pos (f .resource) ∷ pos (f .constraint) ∷ f .factor ∷ []) (i .factors))
+    ++ (bytes "parameter\n" ∷ line ∷ [])))
+unfolding intervalLines
+interval-tables i line missing there = rw (is (i .parameter) missing there) refl
+  where
+    is : (p : Option ℤ) → (p ≡ none → line ≡ bytes "-\n") → ((z : ℤ) → p ≡ some z → line ≡ lineText (z ∷ [])) → line ≡ parameterLine p
+    is none m t = m refl
+    is (some z) m t = t z refl
+
+-- ---- and its values: the factor of resource r and constraint c stands at r × 32 + c, "an absent one is 0"
+pub interval-values : (i : GivenInterval)
+    → (intervalIs i .constraints ≡ length (i .shadows)) × (intervalIs i .shadow ≡ padded 32 (pos 0) (i .shadows))
+    × (intervalIs i .resources ≡ length (i .outputs))
+    × (intervalIs i .lmp ≡ padded 64 (pos 0) (map (λ x. x .lmp) (i .outputs)))
+    × (intervalIs i .dispatch ≡ padded 64 (pos 0) (map (λ x. x .dispatch) (i .outputs)))
+    × (intervalIs i .available ≡ padded 64 (pos 0) (map (λ x. x .available) (i .outputs)))
+    × (intervalIs i .floor ≡ padded 64 (pos 0) (map (λ x. x .floor) (i .outputs)))
+    × (i .parameter ≡ none → intervalIs i .parameter ≡ pos 100)
+    × ((z : ℤ) → i .parameter ≡ some z → intervalIs i .parameter ≡ z)
+unfolding intervalIs
+interval-values i = (refl, refl, refl, refl, refl, refl, refl, (λ e. ap parameterIs e), λ z e. ap parameterIs e)
+
+-- the texts are those lines, one after another
+pub texts : (o : GivenOpening) (i : GivenInterval) → (openingText o ≡ together (openingLines o)) × (intervalText i ≡ together (intervalLines i))
+unfolding openingText intervalText
+texts o i = (refl, refl)
+
+abbrev pub noFactor : GivenFactor
+noFactor = record { resource = 0; constraint = 0; factor = pos 0 }
+
+abbrev pub factorAt : List GivenFactor → ℕ → GivenFactor
+factorAt l i = getD l i noFactor
+
+-- "Factors strictly rise by (resource, constraint)"
+abbrev pub Less : GivenFactor → GivenFactor → Type 0
+Less f g = (f .resource < g .resource) ⊎ ((f .resource ≡ g .resource) × (f .constraint < g .constraint))
+
+abbrev pub Rises : List GivenFactor → Type 0
+Rises l = (i : ℕ) → suc i < length l → Less (factorAt l i) (factorAt l (suc i))
+
+less-trans : (f g h : GivenFactor) → Less f g → Less g h → Less f h
+less-trans f g h (inl a) (inl b) = inl (omega arith)
+less-trans f g h (inl a) (inr b) = inl (omega (arith, b .0))
+less-trans f g h (inr a) (inl b) = inl (omega (arith, a .0))
+less-trans f g h (inr a) (inr b) = inr (a .0 ∙ b .0, omega (arith, a .1, b .1))
+
+later : (f : GivenFactor) (l : List GivenFactor) → Rises (f ∷ l) → (g : GivenFactor) → List·Memᴰ g l → Less f g
+later f [] h g m = absurd (List·Memᴰ·not-nil m)
+later f (x ∷ l) h g m = ⊎-elim
+    (λ q. rw q (h 0 (omega arith)))
+    (λ n. less-trans f x g (h 0 (omega arith)) (later x l (λ i k. h (suc i) (omega arith)) g n))
+    (List·Memᴰ·cases-cons m)
+
+module _ (r c : ℕ) where
+  abbrev At : GivenFactor → Type 0
+  At f = (f .resource ≡ r) × (f .constraint ≡ c)
+
+  found-first : (f : GivenFactor) (l : List GivenFactor) → At f → factorOf (f ∷ l) r c ≡ f .factor
+  unfolding factorOf
+  found-first f l e = rw (eq-eqb (f .resource) r (e .0), eq-eqb (f .constraint) c (e .1))
+
+  found-later : (f : GivenFactor) (l : List GivenFactor) → (At f → ⊥) → factorOf (f ∷ l) r c ≡ factorOf l r c
+  unfolding factorOf
+  found-later f l n = rw (not-both (eqb (f .resource) r) (eqb (f .constraint) c) (λ a b. n (eqb-true (f .resource) r a, eqb-true (f .constraint) c b)))
+    where
+      not-both : (a b : Bool) → (a ≡ true → b ≡ true → ⊥) → (a && b) ≡ false
+      not-both true true h = absurd (h refl refl)
+      not-both true false h = refl
+      not-both false b h = refl
+
+  found-none : (l : List GivenFactor) → ((f : GivenFactor) → List·Memᴰ f l → At f → ⊥) → factorOf l r c ≡ pos 0
+  unfolding factorOf
+  found-none [] h = refl
+  found-none (f ∷ l) h = found-later f l (h f (List·Memᴰ·head refl)) ∙ found-none l (λ g m. h g (List·Memᴰ·tail m))
+
+  found-there : (l : List GivenFactor) → Rises l → (f : GivenFactor) → List·Memᴰ f l → At f → factorOf l r c ≡ f .factor
+  found-there [] h f m e = absurd (List·Memᴰ·not-nil m)
+  found-there (g ∷ l) h f m e = ⊎-elim
+      (λ q. rw (← q) (found-first f l e))
+      (λ n. found-later g l (λ d. ⊎-elim (λ b. omega (arith, d .0, e .0)) (λ b. omega (arith, b .1, d .1, e .1)) (later g l h f n)) ∙ found-there l (λ i k. h (suc i) (omega arith)) f n e)
+      (List·Memᴰ·cases-cons m)
+
+pub factor-values : (i : GivenInterval) → Rises (i .factors) → (r c : ℕ) → r < 64 → c < 32
+    → ((f : GivenFactor) → List·Memᴰ f (i .factors) → At r c f → getD (intervalIs i .factors) (r * 32 + c) (pos 0) ≡ f .factor)
+    × (((f : GivenFactor) → List·Memᴰ f (i .factors) → At r c f → ⊥) → getD (intervalIs i .factors) (r * 32 + c) (pos 0) ≡ pos 0)
+unfolding intervalIs
+factor-values i h r c low high =
+    let x : (r * 32 + c) / 32 ≡ r = omega arith in
+    let y : (r * 32 + c) % 32 ≡ c = omega arith in
+    let e : getD (listed (λ q. factorOf (i .factors) (q / 32) (q % 32)) 2048) (r * 32 + c) (pos 0) ≡ factorOf (i .factors) r c =
+    listed-at (λ q. factorOf (i .factors) (q / 32) (q % 32)) (pos 0) 2048 (r * 32 + c) (omega arith) ∙ ap₂ (factorOf (i .factors)) x y in
+    ((λ f m a. e ∙ found-there r c (i .factors) h f m a), λ n. e ∙ found-none r c (i .factors) n)

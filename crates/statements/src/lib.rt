@@ -1,0 +1,1 @@
+// The headline theorems, each with its type in full. No code.
