@@ -6,13 +6,12 @@ use mathlib.Core.Option.{Option, none, some}
 use mathlib.Core.Bool.{Bool, true, false, cond, _&&_}
 use mathlib.Core.Logic.{⊎-elim}
 use native.Mathlib.Omega.{arith}
-use native.Mathlib.Nat.{suc-mul, mul-le-mul-right, not-suc-le-zero}
-use borrow.Author.Tests.{ltb-true, le-leb, lt-leb}
+use native.Mathlib.Nat.{suc-mul, mul-le-mul-right}
+use borrow.Author.Tests.{le-leb, lt-leb}
 use lib.Dec.{leb, ltb}
 use lib.ListN.{length, replicate, length-replicate, length-set}
 use lib.Seq.{sets}
-use lib.IntN.{ℤ, pos, negsuc, natAbs}
-use lib.Signed.{ltZ}
+use lib.IntN.{ℤ, pos}
 use Rattle.rules_number.specs.Order.{natOf}
 use Rattle.rules_number.proofs.OverLaws.{never, both, le-or-lt}
 use Rattle.rules_text.specs.Numbers.{Line, Row, lines, row}

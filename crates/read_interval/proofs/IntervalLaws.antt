@@ -5,7 +5,7 @@ use mathlib.Core.List.{List}
 use lib.ListN.{length, drop}
 use lib.IntN.{ℤ}
 use Rattle.rules_text.specs.Numbers.{Row, bytes, lines}
-use Rattle.rules_text.specs.Tables.{Reader, Reading, faulty, found, next, _▷_, headed, due, counting, counted, hasId, rows}
+use Rattle.rules_text.specs.Tables.{Reading, faulty, found, next, headed, due, counting, counted, hasId, rows}
 use Rattle.rules_text.specs.Offsets.{namesAt, bytesOf}
 use Rattle.rules_text.specs.declared.Found.the-variants.{At, Nothing}
 use Rattle.rules_text.proofs.NameLaws.{not-headed, past-names}

@@ -7,7 +7,7 @@ use lib.IntN.{ℤ, pos}
 use lib.ListN.{replicate}
 use Rattle.rules_number.specs.Order.{natOf}
 use Rattle.rules_number.specs.Over.{padded}
-use Rattle.rules_curve.specs.Curves.{rawSteps, stepsOf, stepOf, curveWith, blankCurve, curveOf, unlessRefused, checkedCurve, curveRefusal}
+use Rattle.rules_curve.specs.Curves.{rawSteps, stepsOf, stepOf, blankCurve, curveOf, unlessRefused, checkedCurve, curveRefusal}
 use Rattle.rules_curve.specs.declared.Curve.{Curve}
 use Rattle.rules_curve.specs.declared.RawCurve.{RawCurve}
 use Rattle.rules_curve.proofs.CheckLaws.{with-used}

@@ -15,7 +15,7 @@ use Rattle.rules_interval.specs.Intervals.{allWithin, factorsGood, outputsGood,
 use Rattle.rules_interval.specs.declared.Interval.{Interval}
 use Rattle.rules_path.specs.Paths.{demand, supply, share, withholdable, offer, offers, largest, top, total, sellers, left, isNonCompetitive}
 use Rattle.rules_hour.specs.Cuts.{entering, component, cutBy, cutOf}
-use Rattle.rules_hour.specs.Hours.{freshStanding, curveIn, nextStanding, callRefusal, standingAfter, hourRefusal, hourAfter, hourAfterAll}
+use Rattle.rules_hour.specs.Hours.{freshStanding, curveIn, nextStanding, callRefusal, standingAfter, hourAfter, hourAfterAll}
 use Rattle.rules_opening.specs.Openings.{noCosts, noResource, sellersGood, ownersGood, openingRefusal, marketOf}
 use Rattle.rules_hour.specs.Opened.{freshHour, openedHour}
 use Rattle.rules_opening.specs.declared.Source.the-variants as source

@@ -2,7 +2,7 @@
 use Prim.Native.Nat.{ℕ, zero, suc, _+_, _*_, _/_, _%_, _^_, _<_, _≤_}
 use mathlib.Core.Path.{_≡_, refl, sym, ap, subst, _∙_}
 use mathlib.Core.List.{List, [], _∷_, _++_, map}
-use mathlib.Core.Option.{Option, none, some}
+use mathlib.Core.Option.{some}
 use mathlib.Core.Bool.{Bool, true, false, cond, _&&_}
 use mathlib.Core.Logic.{_⊎_, inl, inr, ⊎-elim}
 use native.Mathlib.Omega.{arith}
@@ -13,7 +13,6 @@ use lib.Dec.{eqb, leb, ltb}
 use lib.ListN.{length, getD, set, replicate, length-set, length-replicate, getD-replicate}
 use lib.Seq.{getD-set-same, getD-set-other}
 use lib.IntN.{ℤ, pos}
-use Rattle.rules_number.specs.Order.{natOf}
 use Rattle.rules_number.specs.Over.{listed}
 use Rattle.rules_number.proofs.ListedLaws.{listed-is}
 use Rattle.rules_text.specs.Numbers.{Line, Row, row}
@@ -22,8 +21,8 @@ use Rattle.rules_text.proofs.ListLaws.{and-false}
 use Rattle.rules_parts.specs.Parts.{isDeclared, place, placeOf, isFactor, factorRows, factorCell, withFactor, withFactors}
 use Rattle.rules_parts.proofs.DeclaredLaws.{declared-natural}
 use Rattle.rules_text.specs.Printing.{lineText}
-use Rattle.rules_parts.specs.Texts.{GivenFactor, factorRow, factorOf, Before, Rising, empty, single, next, FactorFits}
-use Rattle.rules_text.specs.Spelled.{Every, no-more, and-all, Small}
+use Rattle.rules_parts.specs.Texts.{GivenFactor, factorRow, factorOf, Before, Rising, empty, next, FactorFits}
+use Rattle.rules_text.specs.Spelled.{Every, no-more, and-all}
 use Rattle.rules_text.proofs.ReaderLaws.{Names, Reads, row-every, rows-back, run-more, run-names}
 
 -- ---- the lines

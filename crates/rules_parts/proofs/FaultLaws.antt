@@ -1,22 +1,15 @@
 -- The first faulty line: one law for each way in which readers are put together. Assumes nothing.
-use Prim.Native.Nat.{ℕ, zero, suc, _+_, _^_, _<_, _≤_}
-use Prim.Native.String.{String}
+use Prim.Native.Nat.{ℕ, zero, suc, _+_}
 use mathlib.Core.Path.{_≡_, refl, sym, ap, subst, _∙_}
-use mathlib.Core.List.{List, [], _∷_, _++_, append-assoc, append-nil, map}
-use mathlib.Core.Option.{Option, none, some}
-use mathlib.Core.Bool.{Bool, true, false, cond}
-use mathlib.Core.Logic.{_⊎_, inl, inr, ⊎-elim}
+use mathlib.Core.List.{List, [], _∷_, _++_, append-assoc}
+use mathlib.Core.Logic.{_⊎_, inr}
 use native.Mathlib.Omega.{arith}
 use native.Mathlib.Nat.{add-zero}
-use lib.ListN.{length, drop, take, getD, length-append, take-append-drop}
-use lib.Seq.{length-take-le}
-use lib.IntN.{ℤ, pos}
+use lib.ListN.{length, take, getD, length-append}
+use lib.IntN.{pos}
 use Rattle.rules_text.specs.declared.Number.{Number}
-use Rattle.rules_text.specs.declared.Number.the-variants.{Is, Not}
-use Rattle.rules_text.specs.Numbers.{Line, Row, bytes, same, number}
-use Rattle.rules_text.specs.Tables.{Reader, Reading, found, faulty, next, _▷_, taken, due, headed}
-use Rattle.rules_text.proofs.NameLaws.{same-eq}
-use Rattle.rules_parts.specs.Faults.{First}
+use Rattle.rules_text.specs.Numbers.{Line, same, number}
+use Rattle.rules_text.specs.Tables.{Reader, Reading, found, faulty, next, _▷_}
 use Rattle.rules_text.proofs.ReaderLaws.{Names}
 
 -- ---- lines that a table that ends before them cannot tell from others: they begin alike, or with no row

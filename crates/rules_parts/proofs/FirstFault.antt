@@ -4,18 +4,17 @@ use mathlib.Core.Path.{_≡_, refl, sym, ap, _∙_}
 use mathlib.Core.List.{List, [], _∷_, _++_, append-nil}
 use mathlib.Core.Option.{some}
 use lib.ListN.{length}
-use lib.IntN.{ℤ, pos}
+use lib.IntN.{pos}
 use native.Mathlib.Omega.{arith}
 use Rattle.rules_interval.specs.declared.Interval.{Interval}
 use Rattle.rules_opening.specs.declared.Opening.{Opening}
 use Rattle.rules_text.specs.Numbers.{Line, Row, bytes, number, magnitude, row}
-use Rattle.rules_text.specs.Tables.{Reader, found, faulty, _▷_, due, headed, single, run, rows, counted, grouped, pairs, each}
+use Rattle.rules_text.specs.Tables.{Reader, found, faulty, due, headed, single, run, rows, counted, grouped, pairs, each}
 use Rattle.rules_parts.specs.Parts.{openingOf, readOpening, isFactor, placeOf, factorRows, parameterOf, intervalOf, readInterval}
 use Rattle.rules_text.specs.Printing.{lineText}
-use Rattle.rules_text.specs.Spelled.{Small}
 use Rattle.rules_parts.specs.Faults.{First}
 use Rattle.rules_text.proofs.ReaderLaws.{single-back}
-use Rattle.rules_parts.proofs.FaultLaws.{Outer, OuterFault, Fault, Inner, found-outer, then-outer}
+use Rattle.rules_parts.proofs.FaultLaws.{Outer, Fault, Inner, found-outer, then-outer}
 use Rattle.rules_parts.proofs.TableFaults.{Any, Few, headed-outer, due-inner, run-rows, rows-inner, counted-inner, grouped-inner, each-inner}
 
 first-of : {A : Type 0} (r : Reader A) → Outer r Any → (n : ℕ) (ls : List Line) (line : ℕ) → r n ls ≡ faulty line → First r n ls line

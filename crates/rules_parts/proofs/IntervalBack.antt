@@ -1,5 +1,5 @@
 -- The text of an interval is read back as that interval. Assumes nothing.
-use Prim.Native.Nat.{ℕ, zero, suc, _+_, _/_, _%_, _^_, _<_, _≤_}
+use Prim.Native.Nat.{ℕ, _+_, _^_, _≤_}
 use mathlib.Core.Path.{_≡_, refl, sym, ap, subst, _∙_}
 use mathlib.Core.List.{List, [], _∷_, _++_, map}
 use mathlib.Core.Option.{Option, none, some}
@@ -7,19 +7,19 @@ use mathlib.Core.Bool.{Bool, true, false, cond}
 use native.Mathlib.Omega.{arith}
 use lib.ListN.{length, length-map}
 use lib.IntN.{ℤ, pos}
-use Rattle.rules_number.specs.Over.{listed, padded}
+use Rattle.rules_number.specs.Over.{padded}
 use Rattle.rules_interval.specs.declared.Interval.{Interval}
 use Rattle.rules_text.specs.Numbers.{Line, Row, bytes, same, lines, number, magnitude, row}
-use Rattle.rules_text.specs.Tables.{Reader, found, _▷_, due, headed, cell, single, counted, rows}
+use Rattle.rules_text.specs.Tables.{Reader, found, due, headed, cell, single, counted, rows}
 use Rattle.rules_text.specs.Offsets.{kept}
 use Rattle.rules_text.proofs.NameLaws.{isLine, same-eq}
-use Rattle.rules_parts.specs.Parts.{readInterval, intervalOf, factorRows, parameterOf, withFactors}
+use Rattle.rules_parts.specs.Parts.{readInterval, intervalOf, factorRows, parameterOf}
 use Rattle.rules_parts.proofs.IntervalStages.{by-fields, last, lastTwo, lastThree}
 use Rattle.rules_text.specs.Printing.{lineText}
 use Rattle.rules_parts.specs.Texts.{GivenInterval, GivenOutput, GivenFactor, shadowRow, outputRow, factorRow, parameterLine, parameterIs, intervalLines, intervalText, intervalIs, IntervalSmall, IntervalFits}
 use Rattle.rules_text.specs.Spelled.{Every, no-more, and-all, Small, tableLines, countedRows, together}
 use Rattle.rules_text.proofs.ClosedLines.{lines-together, line-closed, every-map, every-append, counted-closed}
-use Rattle.rules_text.proofs.ReaderLaws.{Reads, Names, Values, then-back, into-back, headed-back, due-back, single-back, counted-back, counted-length, counted-map}
+use Rattle.rules_text.proofs.ReaderLaws.{Reads, Values, then-back, into-back, headed-back, due-back, single-back, counted-back, counted-length, counted-map}
 use Rattle.rules_parts.proofs.FactorBack.{factors-back, cells-back}
 use Rattle.rules_parts.proofs.KeptLaws.{kept-padded, map-same}
 

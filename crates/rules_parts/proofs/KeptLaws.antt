@@ -1,10 +1,10 @@
 -- An array that keeps what it has room for holds it, and blanks after it. Assumes nothing.
 use Prim.Native.Nat.{ℕ, zero, suc, _+_, _-_, _≤_}
-use mathlib.Core.Path.{_≡_, refl, sym, ap, _∙_}
+use mathlib.Core.Path.{_≡_, refl, ap, _∙_}
 use mathlib.Core.List.{List, [], _∷_, _++_, map}
 use native.Mathlib.Omega.{arith}
 use lib.ListN.{length, drop, replicate, length-replicate}
-use lib.Seq.{sets, sets-eq, drop-nil}
+use lib.Seq.{sets, sets-eq}
 use Rattle.rules_number.specs.Over.{padded}
 use Rattle.rules_text.specs.Offsets.{kept}
 

@@ -1,7 +1,7 @@
 -- Whatever is read as an interval is the text of one, with nothing else in it. Assumes nothing.
-use Prim.Native.Nat.{ℕ, zero, suc, _+_, _*_, _^_, _<_, _≤_}
+use Prim.Native.Nat.{ℕ, suc, _+_, _*_, _<_, _≤_}
 use mathlib.Core.Path.{_≡_, refl, sym, ap, subst, _∙_}
-use mathlib.Core.List.{List, [], _∷_, _++_, append-assoc, map}
+use mathlib.Core.List.{List, [], _∷_, _++_, map}
 use mathlib.Core.Option.{Option, none, some}
 use mathlib.Core.Bool.{Bool, true, false, cond, _&&_}
 use mathlib.Core.Logic.{_⊎_, inl, inr, ⊎-elim}
@@ -14,7 +14,7 @@ use lib.IntN.{ℤ, pos, negsuc}
 use Rattle.rules_number.proofs.OverLaws.{never, both, le-or-lt}
 use Rattle.rules_interval.specs.declared.Interval.{Interval}
 use Rattle.rules_text.specs.Numbers.{Line, Row, bytes, same}
-use Rattle.rules_text.specs.Tables.{Reader, found, _▷_, due, headed, cell, single, run, rows, counted}
+use Rattle.rules_text.specs.Tables.{Reader, found, due, headed, cell, single, run, rows, counted}
 use Rattle.rules_text.proofs.NameLaws.{same-eq}
 use Rattle.rules_parts.specs.Parts.{isDeclared, place, placeOf, isFactor, factorRows, parameterOf, intervalOf, readInterval}
 use Rattle.rules_parts.proofs.DeclaredLaws.{declared-below}
@@ -25,7 +25,7 @@ use Rattle.rules_text.specs.Spelled.{Every, no-more, and-all, Small, tableLines
 use Rattle.rules_text.proofs.ReaderLaws.{Values, counted-length}
 use Rattle.rules_parts.proofs.IntervalBack.{got}
 use Rattle.rules_text.proofs.OnlySpelling.{Spelled}
-use Rattle.rules_parts.proofs.OnlyRows.{Suited, Run, ended, goes, ran, Due, Counts, two, headed-only, due-only, single-only, rows-only, counted-only}
+use Rattle.rules_parts.proofs.OnlyRows.{Suited, Run, goes, ran, Due, Counts, two, headed-only, due-only, single-only, rows-only, counted-only}
 use Rattle.rules_parts.proofs.OnlyOpening.{firsts, firsts-are, firsts-small, counted-as, ones, ones-are, glue}
 
 no : {X : Type 0} → _≡_ {A = ℕ} 0 1 → X

@@ -1,5 +1,5 @@
 -- Whatever is read as an opening is the text of one, with nothing else in it. Assumes nothing.
-use Prim.Native.Nat.{ℕ, zero, suc, _+_, _^_, _<_, _≤_}
+use Prim.Native.Nat.{ℕ, zero, suc, _+_}
 use mathlib.Core.Path.{_≡_, refl, sym, ap, subst, _∙_}
 use mathlib.Core.List.{List, [], _∷_, _++_, append-assoc, map}
 use native.Mathlib.Omega.{arith}
@@ -9,12 +9,11 @@ use Rattle.rules_curve.specs.declared.RawStep.{RawStep}
 use Rattle.rules_cost.specs.declared.Point.{Point}
 use Rattle.rules_opening.specs.declared.Opening.{Opening}
 use Rattle.rules_text.specs.Numbers.{Line, Row, bytes, lines}
-use Rattle.rules_text.specs.Tables.{Reader, found, _▷_, due, headed, cell, single, counted, grouped, pairs, each}
+use Rattle.rules_text.specs.Tables.{Reader, found, due, headed, cell, single, counted, grouped, pairs, each}
 use Rattle.rules_parts.specs.Parts.{openingOf, readOpening}
 use Rattle.rules_text.specs.Printing.{lineText}
-use Rattle.rules_parts.specs.Texts.{GivenOpening, GivenResource, sellerRow, resourceRow, stepRow, pointRow, costRow, stepRows, pointRows, openingLines, openingText, openingIs, ResourceSmall, OpeningSmall, ResourceFits, OpeningFits}
+use Rattle.rules_parts.specs.Texts.{GivenOpening, GivenResource, sellerRow, resourceRow, stepRow, pointRow, costRow, stepRows, pointRows, openingLines, ResourceSmall, OpeningSmall}
 use Rattle.rules_text.specs.Spelled.{Every, no-more, and-all, Small, tableLines, countedRows, groupedRows, together}
-use Rattle.rules_text.proofs.ClosedLines.{together-lines}
 use Rattle.rules_text.proofs.ReaderLaws.{Values, counted-length}
 use Rattle.rules_parts.proofs.OpeningBack.{got, readTwo, readThree, readFour, readFive, readSix}
 use Rattle.rules_parts.proofs.OnlyRows.{Due, Counts, Eaches, Groups, Grouped, group-rows, two, headed-only, due-only, single-only, counted-only, each-only, grouped-only}

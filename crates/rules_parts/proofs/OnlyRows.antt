@@ -1,5 +1,5 @@
 -- What a reader takes as a table is the text of its rows, and of no others. Assumes nothing.
-use Prim.Native.Nat.{ℕ, zero, suc, _+_, _^_, _<_, _≤_}
+use Prim.Native.Nat.{ℕ, zero, suc, _+_}
 use Prim.Native.String.{String}
 use mathlib.Core.Path.{_≡_, refl, sym, ap, subst, _∙_}
 use mathlib.Core.List.{List, [], _∷_, _++_, append-assoc, map}
@@ -7,9 +7,8 @@ use mathlib.Core.Option.{Option, none, some}
 use mathlib.Core.Bool.{Bool, true, false, cond}
 use native.Mathlib.Omega.{arith}
 use borrow.Author.Tests.{eqb-true}
-use lib.ListN.{length, drop, getD}
+use lib.ListN.{length, drop}
 use lib.IntN.{ℤ, pos, negsuc}
-use Rattle.rules_number.specs.Order.{eqZ}
 use Rattle.rules_number.proofs.OverLaws.{never}
 use Rattle.rules_text.specs.Numbers.{Line, Row, bytes, same, row}
 use Rattle.rules_text.specs.Tables.{Reader, Reading, found, faulty, next, _▷_, taken, due, headed, cell, one, single, ifSuits, hasId, andMore, run, rows, counting, counted, each, grouped, pairs}

@@ -1,5 +1,5 @@
 -- The text of an opening is read back as that opening. Assumes nothing.
-use Prim.Native.Nat.{ℕ, zero, suc, _+_, _^_, _<_, _≤_}
+use Prim.Native.Nat.{ℕ, zero, suc, _+_, _^_, _≤_}
 use mathlib.Core.Path.{_≡_, refl, sym, ap, subst, _∙_}
 use mathlib.Core.List.{List, [], _∷_, _++_, map}
 use mathlib.Core.Bool.{true}
@@ -21,7 +21,7 @@ use Rattle.rules_text.specs.Printing.{lineText}
 use Rattle.rules_parts.specs.Texts.{GivenOpening, GivenResource, sellerRow, resourceRow, stepRow, pointRow, costRow, stepRows, pointRows, zeroStep, zeroPoint, curveIs, resourceIs, zeroResource, openingLines, openingText, openingIs, ResourceSmall, OpeningSmall, ResourceFits, OpeningFits}
 use Rattle.rules_text.specs.Spelled.{Every, no-more, and-all, Small, tableLines, countedRows, groupedRows, together}
 use Rattle.rules_text.proofs.ClosedLines.{lines-together, line-closed, every-map, every-append, Closed, counted-closed, grouped-closed}
-use Rattle.rules_text.proofs.ReaderLaws.{Reads, Names, Values, then-back, into-back, headed-back, due-back, single-back, withId, counted-back, counted-length, counted-map, grouped-back, each-back}
+use Rattle.rules_text.proofs.ReaderLaws.{Reads, Values, then-back, into-back, headed-back, due-back, single-back, withId, counted-back, counted-length, counted-map, grouped-back, each-back}
 use Rattle.rules_parts.proofs.KeptLaws.{kept-padded, map-same}
 
 -- ---- what is read

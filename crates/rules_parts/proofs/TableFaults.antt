@@ -2,29 +2,28 @@
 use Prim.Native.Nat.{ℕ, zero, suc, _+_, _^_, _<_, _≤_}
 use Prim.Native.String.{String}
 use mathlib.Core.Path.{_≡_, refl, sym, ap, subst, _∙_}
-use mathlib.Core.List.{List, [], _∷_, _++_, append-assoc, append-nil, map}
+use mathlib.Core.List.{List, [], _∷_, _++_, map}
 use mathlib.Core.Option.{Option, none, some}
 use mathlib.Core.Bool.{Bool, true, false, cond}
 use mathlib.Core.Logic.{_⊎_, inl, inr, ⊎-elim}
 use native.Mathlib.Omega.{arith}
 use native.Mathlib.Nat.{add-zero}
 use borrow.Author.Tests.{eqb-true}
-use lib.ListN.{length, drop, take, getD, replicate, length-append, length-replicate, take-append-drop}
+use lib.ListN.{length, drop, take, getD, replicate, length-replicate, take-append-drop}
 use lib.Seq.{length-take-le, drop-at}
-use lib.IntN.{ℤ, pos, negsuc}
+use lib.IntN.{pos, negsuc}
 use Rattle.rules_number.specs.Order.{eqZ}
 use Rattle.rules_number.proofs.OverLaws.{never}
 use Rattle.rules_text.specs.declared.Number.{Number}
-use Rattle.rules_text.specs.declared.Number.the-variants.{Is, Not}
-use Rattle.rules_text.specs.Numbers.{Line, Row, bytes, same, number, magnitude, closing, field, row}
+use Rattle.rules_text.specs.declared.Number.the-variants.{Not}
+use Rattle.rules_text.specs.Numbers.{Line, Row, bytes, same, number, magnitude, row}
 use Rattle.rules_text.specs.Tables.{Reader, Reading, found, faulty, next, _▷_, taken, due, headed, cell, ifSuits, hasId, andMore, run, rows, counting, counted, each, grouped, pairs}
-use Rattle.rules_text.proofs.NameLaws.{same-eq}
 use Rattle.rules_text.proofs.StageLaws.{run-few}
 use Rattle.rules_text.specs.Printing.{lineText}
 use Rattle.rules_text.specs.Spelled.{Every, no-more, and-all, Small, countedRows}
-use Rattle.rules_text.proofs.ReaderLaws.{Names, Reads, Values, headed-back, due-back, run-names, counted-length, each-back}
+use Rattle.rules_text.proofs.ReaderLaws.{Names, Reads, Values, headed-back, due-back, run-names, each-back}
 use Rattle.rules_text.proofs.OnlySpelling.{Spelled, row-only}
-use Rattle.rules_parts.proofs.FaultLaws.{Alike, Locally, Local, Possible, Fault, Inner, OuterFault, Outer, then-local, found-outer}
+use Rattle.rules_parts.proofs.FaultLaws.{Alike, Locally, Local, Fault, Inner, OuterFault, Outer, then-local, found-outer}
 
 no : {X : Type 0} → _≡_ {A = ℕ} 0 1 → X
 no e = absurd (omega arith)

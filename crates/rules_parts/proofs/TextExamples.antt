@@ -1,7 +1,7 @@
 -- The texts of Case T's values are the page's. Assumes nothing.
 use mathlib.Core.Path.{_≡_, refl}
 use mathlib.Core.List.{[], _∷_}
-use mathlib.Core.Option.{none, some}
+use mathlib.Core.Option.{some}
 use lib.IntN.{pos, negsuc}
 use Rattle.rules_text.specs.Numbers.{bytes}
 use Rattle.rules_text.specs.Printing.{digits, decimal, lineText}

@@ -1,5 +1,5 @@
 -- Paper 01, Text, the other way round: the text of an opening and of an interval, table by table as the page shows them, and what is to be read from it.
-use Prim.Native.Nat.{ℕ, zero, suc, _/_, _%_, _^_, _<_, _≤_}
+use Prim.Native.Nat.{ℕ, zero, _/_, _%_, _<_, _≤_}
 use mathlib.Core.Path.{_≡_}
 use mathlib.Core.List.{List, [], _∷_, _++_, map}
 use mathlib.Core.Option.{Option, none, some}
@@ -7,7 +7,7 @@ use mathlib.Core.Bool.{cond, _&&_}
 use mathlib.Core.Logic.{_⊎_}
 use lib.Dec.{eqb}
 use lib.ListN.{length}
-use lib.IntN.{ℤ, pos, natAbs}
+use lib.IntN.{ℤ, pos}
 use Rattle.rules_number.specs.Over.{listed, padded}
 use Rattle.rules_curve.specs.declared.RawStep.{RawStep}
 use Rattle.rules_curve.specs.declared.RawCurve.{RawCurve}
@@ -19,7 +19,7 @@ use Rattle.rules_opening.specs.declared.Resource.{Resource}
 use Rattle.rules_opening.specs.declared.Opening.{Opening}
 use Rattle.rules_text.specs.Numbers.{Line, Row, bytes}
 use Rattle.rules_text.specs.Printing.{lineText}
-use Rattle.rules_text.specs.Spelled.{countedRows, groupedRows, together, tableLines, Every, no-more, and-all, Small}
+use Rattle.rules_text.specs.Spelled.{countedRows, groupedRows, together, tableLines, Every, Small}
 
 -- ---- what an opening says
 pub record GivenResource : Type 0 where

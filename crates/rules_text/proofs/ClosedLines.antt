@@ -1,17 +1,15 @@
 -- Lines closed by byte 10: those of a text, and the text of those. Assumes nothing.
 use Prim.Native.Nat.{ℕ, zero, suc, _+_, _/_, _%_, _<_, _≤_}
-use mathlib.Core.Path.{_≡_, refl, sym, ap, subst, _∙_}
+use mathlib.Core.Path.{_≡_, refl, sym, ap, _∙_}
 use mathlib.Core.List.{List, [], _∷_, _++_, append-assoc, map}
 use mathlib.Core.Bool.{Bool, true, false, cond}
 use mathlib.Core.Logic.{⊎-elim}
 use native.Mathlib.Omega.{arith}
-use native.Mathlib.Nat.{mod-lt}
 use borrow.Author.Tests.{ne-eqb}
 use lib.Dec.{eqb}
-use lib.ListN.{length}
 use lib.IntN.{ℤ, pos, negsuc}
 use Rattle.rules_number.proofs.OverLaws.{never, le-or-lt}
-use Rattle.rules_text.specs.Numbers.{Line, Row, lines, joined, closing}
+use Rattle.rules_text.specs.Numbers.{Line, Row, lines, joined}
 use Rattle.rules_text.proofs.NameLaws.{isLine}
 use Rattle.rules_text.specs.Printing.{digits, decimal, lineText}
 use Rattle.rules_text.proofs.PrintLaws.{digits-one, digits-more}

@@ -1,5 +1,5 @@
 -- Only what would be printed is read: a number has one spelling, and a row one line. Assumes nothing.
-use Prim.Native.Nat.{ℕ, zero, suc, _+_, _-_, _*_, _/_, _%_, _^_, _<_, _≤_}
+use Prim.Native.Nat.{ℕ, zero, suc, _+_, _-_, _*_, _/_, _%_, _<_, _≤_}
 use mathlib.Core.Path.{_≡_, refl, sym, ap, subst, _∙_}
 use mathlib.Core.List.{List, [], _∷_, _++_, append-assoc, append-nil}
 use mathlib.Core.Option.{Option, none, some}
@@ -7,12 +7,12 @@ use mathlib.Core.Bool.{Bool, true, false, cond, not, _&&_, _||_}
 use mathlib.Core.Logic.{⊎-elim, _↔_}
 use native.Mathlib.Omega.{arith}
 use native.Mathlib.Nat.{add-zero, eq-zero-or-pos}
-use borrow.Author.Tests.{leb-true, eqb-true, eqb-false}
+use borrow.Author.Tests.{leb-true, eqb-true}
 use lib.Dec.{eqb, leb}
 use lib.ListN.{length, drop, take, getD, take-append-drop}
 use lib.Seq.{drop-cons, length-take-le}
-use lib.IntN.{ℤ, pos, negsuc, negℤ, natAbs}
-use Rattle.rules_number.proofs.OverLaws.{never, both, le-or-lt}
+use lib.IntN.{ℤ, pos, negsuc, negℤ}
+use Rattle.rules_number.proofs.OverLaws.{never, both}
 use Rattle.rules_text.specs.declared.Magnitude.{Magnitude}
 use Rattle.rules_text.specs.declared.Magnitude.the-variants.{Spells, None}
 use Rattle.rules_text.specs.declared.Number.{Number}

@@ -1,4 +1,4 @@
--- Laws of specs/Pages: the digits of a number, put one by one from the last, and texts put one after another. Assumes nothing.
+-- Laws of specs/Printing: the digits of a number, put one by one from the last, and texts put one after another. Assumes nothing.
 use Prim.Native.Nat.{ℕ, zero, suc, _+_, _-_, _*_, _/_, _%_, _^_, _≤_, _<_, min}
 use mathlib.Core.Path.{_≡_, refl, sym, ap, subst, _∙_}
 use mathlib.Core.List.{List, [], _∷_, _++_}
@@ -7,7 +7,7 @@ use mathlib.Core.Logic.{⊎-elim}
 use native.Mathlib.Omega.{arith}
 use native.Mathlib.Nat.{pow-suc, not-suc-le-zero}
 use native.Mathlib.Numerals.{add-one}
-use borrow.Author.Tests.{lt-ltb, le-ltb, ltb-true, le-leb, lt-leb}
+use borrow.Author.Tests.{lt-ltb, le-ltb, ltb-true}
 use lib.Dec.{leb}
 use lib.ListN.{length, drop, take, getD, set, length-append, length-drop, length-take, length-set, drop-of-length-le}
 use lib.Seq.{sets, length-sets, take-all}

@@ -11,11 +11,11 @@ use borrow.Author.Tests.{eq-eqb, ne-eqb}
 use lib.Dec.{eqb}
 use lib.ListN.{length, drop, getD, length-append, length-map}
 use lib.Seq.{drop-append-seam}
-use lib.IntN.{ℤ, pos, natAbs}
+use lib.IntN.{ℤ, pos}
 use Rattle.rules_text.specs.declared.Number.{Number}
-use Rattle.rules_text.specs.declared.Number.the-variants.{Is, Not}
+use Rattle.rules_text.specs.declared.Number.the-variants.{Not}
 use Rattle.rules_text.specs.Numbers.{Line, Row, bytes, same, number, closing, field, row}
-use Rattle.rules_text.specs.Tables.{Reader, Reading, found, faulty, next, _▷_, taken, due, headed, cell, single, one, ifSuits, hasId, andMore, run, rows, counting, counted, each, grouped, pairs}
+use Rattle.rules_text.specs.Tables.{Reader, Reading, found, faulty, next, _▷_, taken, due, headed, single, one, ifSuits, hasId, andMore, run, rows, counting, counted, each, grouped, pairs}
 use Rattle.rules_text.specs.Printing.{lineText}
 use Rattle.rules_text.proofs.RoundTrip.{row-back}
 use Rattle.rules_text.specs.Spelled.{Every, no-more, and-all, Small, countedRows, groupedRows, together}
