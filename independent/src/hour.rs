@@ -194,6 +194,11 @@ impl Hour {
         if self.accepted >= 4 {
             return Err(12);
         }
+        self.check_values(interval)
+    }
+
+    /// 13 to 16, of an interval or a pass.
+    pub fn check_values(&self, interval: &Interval) -> Result<(), Refusal> {
         // 13: "resource count isn't the hour's"
         if interval.outputs.len() != self.resources.len() {
             return Err(13);
@@ -223,6 +228,10 @@ impl Hour {
         (0..self.resources.len()).map(flow).collect()
     }
 
+    pub fn curves(&self) -> Vec<Curve> {
+        self.resources.iter().map(Resource::curve).collect()
+    }
+
     pub fn verdicts(&self, interval: &Interval) -> Vec<Verdict> {
         let sets = sets_of_at_most_three(self.net_seller.len());
         let verdict = |constraint: usize| {
@@ -242,11 +251,7 @@ impl Hour {
         self.check(interval)?;
         let verdicts = self.verdicts(interval);
         for (index, resource) in self.resources.iter_mut().enumerate() {
-            let c = component(interval, &verdicts, index);
-            // "If dispatch > 0 and C > 0 ... Otherwise it stays."
-            if interval.outputs[index].dispatch > 0 && c > 0 {
-                resource.floor_prices.push(floor_price(interval, index, c));
-            }
+            resource.floor_prices.extend(cut(interval, &verdicts, index));
         }
         self.accepted += 1;
         Ok(verdicts)
@@ -263,6 +268,13 @@ pub fn component(interval: &Interval, verdicts: &[Verdict], resource: usize) -> 
         }
     }
     -sum
+}
+
+/// L of a resource in an interval or a pass: "If dispatch > 0 and C > 0 ... Otherwise it stays."
+pub fn cut(interval: &Interval, verdicts: &[Verdict], resource: usize) -> Option<i128> {
+    let c = component(interval, verdicts, resource);
+    let cuts = interval.outputs[resource].dispatch > 0 && c > 0;
+    cuts.then(|| floor_price(interval, resource, c))
 }
 
 /// "Competitive price = lmp - C / 1,000,000, up ... Floor price L = competitive price + parameter."

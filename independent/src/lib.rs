@@ -7,6 +7,7 @@ pub mod curve;
 pub mod generate;
 pub mod hour;
 pub mod numbers;
+pub mod passes;
 pub mod print;
 pub mod text;
 pub mod verdict;

@@ -14,7 +14,7 @@ pub const COMPETITIVE: u8 = 0;
 pub const NON_COMPETITIVE: u8 = 1;
 pub const NOT_BINDING: u8 = 2;
 
-#[derive(Clone, Debug)]
+#[derive(Clone, Debug, PartialEq, Eq)]
 pub struct Verdict {
     /// "Verdict 0 is competitive, 1 non-competitive, 2 not binding (then 0 0 and no sellers)."
     pub code: u8,

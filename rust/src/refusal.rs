@@ -28,7 +28,7 @@ impl Refusal {
 
     /// The refusal with the number and line that the engine told, where it told one: its numbers are 1 to 18.
     pub(crate) fn told([number, line]: [u64; 2]) -> Option<Refusal> {
-        let number = u8::try_from(number).expect("the engine has 18 refusals");
+        let number = u8::try_from(number).expect("a refusal of the engine");
         (number != 0).then_some(Refusal { number, line })
     }
 }
@@ -62,6 +62,7 @@ pub(crate) fn reason(number: u8) -> &'static str {
         16 => "available is outside 0 to 1,000,000, or floor or dispatch is below 0 or above available",
         17 => "the line is not of the form that is due there",
         18 => "the text has more than 65,536 bytes",
+        19 => "no interval is accepted yet, or three passes are accepted since the last",
         _ => "no such refusal is known",
     }
 }
@@ -73,9 +74,9 @@ mod tests {
 
     #[test]
     fn every_number_has_a_sentence_of_its_own() {
-        let sentences: BTreeSet<&str> = (0..=18).map(reason).collect();
-        assert_eq!(sentences.len(), 19);
-        assert_eq!(reason(0), reason(19));
+        let sentences: BTreeSet<&str> = (0..=19).map(reason).collect();
+        assert_eq!(sentences.len(), 20);
+        assert_eq!(reason(0), reason(20));
     }
 
     #[test]

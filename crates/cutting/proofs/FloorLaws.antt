@@ -12,7 +12,7 @@ use Rattle.rules_mitigation.specs.declared.FloorPrice.{FloorPrice}
 use Rattle.rules_interval.specs.Intervals.{cell}
 use Rattle.rules_hour.specs.Cuts.{cutBy}
 use Rattle.rules_hour.specs.Hours.{uncut, cutFloor}
-use Rattle.cutting.specs.Weights.{weighed, cutFloors}
+use Rattle.cutting.specs.Weights.{weighed, weighedFloors}
 use Rattle.rules_hour.specs.declared.Floor.{Floor}
 
 module _ (lmp dispatch factors : List ℤ) (parameter : ℤ) (w : List ℤ) (m : ℕ) (floors : List Floor) (r : ℕ) where
@@ -20,9 +20,9 @@ module _ (lmp dispatch factors : List ℤ) (parameter : ℤ) (w : List ℤ) (m :
   abbrev pub cutAt : ℕ → FloorPrice
   cutAt r = cutBy (cell dispatch r) (cell lmp r) (weighed factors w r m) parameter
 
-  pub cut-turn : (next : List Floor) (k : FloorPrice) (x : Floor) → r < length floors → next ≡ cutFloors lmp dispatch factors parameter w m r floors → k ≡ cutAt r → x ≡ cutFloor k (getD next r uncut)
-      → set next r x ≡ cutFloors lmp dispatch factors parameter w m (r + 1) floors
-  unfolding cutFloors
+  pub cut-turn : (next : List Floor) (k : FloorPrice) (x : Floor) → r < length floors → next ≡ weighedFloors lmp dispatch factors parameter w m r floors → k ≡ cutAt r → x ≡ cutFloor k (getD next r uncut)
+      → set next r x ≡ weighedFloors lmp dispatch factors parameter w m (r + 1) floors
+  unfolding weighedFloors
   cut-turn next k x h e f g =
       let step : ℕ → Floor → Floor = λ i y. cutFloor (cutAt i) y in
       let old : getD next r uncut ≡ getD floors r uncut = ap (λ (l : List Floor). getD l r uncut) e ∙ upTo-at step uncut 0 r floors in

@@ -11,7 +11,6 @@ use Rattle.rules_interval.specs.Intervals.{cell}
 use Rattle.rules_hour.specs.Cuts.{cutBy}
 use Rattle.rules_hour.specs.Hours.{cutFloor}
 use Rattle.rules_hour.specs.declared.Floor.{Floor}
-use Rattle.rules_hour.specs.declared.Standing.{Standing}
 use Rattle.rules_path.specs.declared.Verdict.{Verdict}
 use Rattle.rules_path.specs.declared.Finding.{Finding}
 use Rattle.rules_path.specs.declared.Finding.the-variants.{Competitive, NonCompetitive, NotBinding}
@@ -57,9 +56,5 @@ pub record Cuttable (m : ℕ) (shadow : List ℤ) (n : ℕ) (lmp factors : List 
   pub parameter-in : inRange (pos 0) (pos 100) parameter ≡ true
 
 -- the floor prices of the first n resources, each after its cut
-unfoldable pub cutFloors : List ℤ → List ℤ → List ℤ → ℤ → List ℤ → ℕ → ℕ → List Floor → List Floor
-cutFloors lmp dispatch factors parameter weights m n floors = upTo (λ r x. cutFloor (cutBy (cell dispatch r) (cell lmp r) (weighed factors weights r m) parameter) x) 0 n floors
-
--- the standing with these floor prices, and one more interval accepted
-abbrev pub cutStanding : Standing → List Floor → Standing
-cutStanding s floors = record { accepted = s .accepted + 1; floors = floors }
+unfoldable pub weighedFloors : List ℤ → List ℤ → List ℤ → ℤ → List ℤ → ℕ → ℕ → List Floor → List Floor
+weighedFloors lmp dispatch factors parameter weights m n floors = upTo (λ r x. cutFloor (cutBy (cell dispatch r) (cell lmp r) (weighed factors weights r m) parameter) x) 0 n floors

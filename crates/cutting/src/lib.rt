@@ -1,28 +1,28 @@
-// An interval taken: what it does to the standing of an hour (paper 01, Interval and hour; 31.2.3, 34.1.5; Refused, by place: 12 to 16).
+// What an interval, or a pass, makes of floor prices (paper 01, Interval and hour; 31.2.3, 34.1.5; Refused, by place: 13 to 16).
 // The contracts cite specs/Weights and the definitions of rules_hour.
 ghost use mathlib.Core.Path.{_≡_};
-ghost use Prim.Native.Nat.{_≤_, _<_};
+ghost use Prim.Native.Nat.{_≤_};
 ghost use lib.IntN.{natAbs};
-ghost use lib.ListN.{length, replicate};
+ghost use lib.ListN.{length};
 ghost use Rattle.rules_curve.specs.Refusals.{outcomeNumber};
-ghost use Rattle.rules_path.specs.Verdicts.{notBinding};
+ghost use Rattle.rules_interval.specs.Intervals.{intervalOf, intervalRefusal};
+ghost use Rattle.rules_path.specs.Judgements.{judgedVerdicts};
 ghost use Rattle.rules_hour.specs.Cuts.{cutBy};
-ghost use Rattle.rules_hour.specs.Hours.{callRefusal, standingAfter, callVerdicts};
+ghost use Rattle.rules_hour.specs.Hours.{floorsAfter};
 ghost use Rattle.cutting.specs.Weights as Weights;
-ghost use Rattle.cutting.specs.Weights.{weightsOf, weighed, Weighable, Cuttable, cutFloors, cutStanding};
+ghost use Rattle.cutting.specs.Weights.{weightsOf, weighed, Weighable, Cuttable, weighedFloors};
 use rules_curve::Outcome;
-use rules_curve::Refusal;
-use rules_hour::Standing;
+use rules_hour::Floor;
 use rules_interval::Interval;
 use rules_mitigation::FloorPrice;
 use rules_path::Finding;
 use rules_path::Market;
 use rules_path::Verdict;
 
-// What an interval answers: the next standing and the verdicts, or the standing as it was and the refusal.
-pub struct Taken {
+// What an interval makes of floor prices, and its verdicts; or the floor prices as they were, no verdicts and the refusal.
+pub struct Cutting {
     pub outcome: Outcome,
-    pub standing: Standing,
+    pub floors: [Floor; Interval::MAX_RESOURCES],
     pub verdicts: [Verdict; Interval::MAX_CONSTRAINTS],
 }
 
@@ -86,20 +86,9 @@ fn cut_by(dispatch: i64, lmp: i64, component: i64, parameter: i64) -> FloorPrice
     FloorPrice::Cut(competitive + parameter)
 }
 
-// A refusal returns its number alone: the standing as it was, and no verdicts.
-fn refused(outcome: Outcome, standing: Standing) -> Taken
-    ensures { λ r. ⌜ (r .outcome ≡ outcome) × ((r .standing ≡ standing) × (r .verdicts ≡ replicate 32 notBinding)) ⌝ }
-{
-    Taken {
-        outcome: outcome,
-        standing: standing,
-        verdicts: [verdict::not_binding(); Interval::MAX_CONSTRAINTS],
-    }
-}
-
-// The standing after an interval of these values, which the hour accepts, and its verdicts.
-fn cut<'a>(
-    standing: Standing,
+// The floor prices after an interval of these values and verdicts, each resource's cut.
+fn cut_each<'a>(
+    floors: [Floor; Interval::MAX_RESOURCES],
     verdicts: [Verdict; Interval::MAX_CONSTRAINTS],
     constraints: usize,
     shadow: &'a [i64; Interval::MAX_CONSTRAINTS],
@@ -108,64 +97,73 @@ fn cut<'a>(
     dispatch: &'a [i64; Interval::MAX_RESOURCES],
     factors: &'a [i64; Interval::MAX_FACTORS],
     parameter: i64,
-) -> Standing
-    requires { ⌜ (standing .accepted < 4) × Cuttable constraints (now shadow) resources (now lmp) (now factors) parameter ⌝ }
-    ensures { λ r. ⌜ r ≡ cutStanding standing (cutFloors (now (lmp .entry)) (now (dispatch .entry)) (now (factors .entry)) parameter (weightsOf (now (shadow .entry)) verdicts constraints) constraints resources (standing .floors)) ⌝ }
+) -> [Floor; Interval::MAX_RESOURCES]
+    requires { ⌜ Cuttable constraints (now shadow) resources (now lmp) (now factors) parameter ⌝ }
+    ensures { λ r. ⌜ r ≡ weighedFloors (now (lmp .entry)) (now (dispatch .entry)) (now (factors .entry)) parameter (weightsOf (now (shadow .entry)) verdicts constraints) constraints resources floors ⌝ }
 {
     let weights = weights_of(shadow, verdicts, constraints);
-    let mut floors = standing.floors;
+    let mut left = floors;
     let mut r: usize = 0;
     while r < resources {
-        let floor = floors[r];
+        let floor = left[r];
         let component = component_of(factors, &weights, r, constraints);
-        floors[r] = standing::cut_floor(floor, cut_by(dispatch[r], lmp[r], component, parameter));
+        left[r] = standing::cut_floor(floor, cut_by(dispatch[r], lmp[r], component, parameter));
         r += 1;
     }
-    Standing {
-        accepted: standing.accepted + 1,
-        floors,
-    }
+    left
 }
 
-// An interval taken in an hour of this market: the next standing and the verdicts, or the lowest of refusals 12 to 16 that applies and the standing as it was.
-pub fn take_interval(standing: Standing, market: Market, v: Interval) -> Taken
-    ensures number { λ r. ⌜ outcomeNumber (r .outcome) ≡ callRefusal market standing v ⌝ }
-    ensures standing { λ r. ⌜ r .standing ≡ standingAfter market standing v ⌝ }
-    ensures verdicts { λ r. ⌜ r .verdicts ≡ callVerdicts market standing v ⌝ }
+// The floor prices after an interval of these values in an hour of this market, and its verdicts; or the lowest of refusals 13 to 16 that applies, the floor prices as
+// they were and no verdicts. The arrays are lent, since they are large.
+pub fn cut_floors<'a>(
+    floors: [Floor; Interval::MAX_RESOURCES],
+    market: Market,
+    constraints: usize,
+    shadow: &'a [i64; Interval::MAX_CONSTRAINTS],
+    resources: usize,
+    lmp: &'a [i64; Interval::MAX_RESOURCES],
+    dispatch: &'a [i64; Interval::MAX_RESOURCES],
+    available: &'a [i64; Interval::MAX_RESOURCES],
+    floor: &'a [i64; Interval::MAX_RESOURCES],
+    factors: &'a [i64; Interval::MAX_FACTORS],
+    parameter: i64,
+) -> Cutting
+    ensures number { λ r. ⌜ outcomeNumber (r .outcome) ≡ intervalRefusal (market .resources) (intervalOf constraints (now (shadow .entry)) resources (now (lmp .entry)) (now (dispatch .entry)) (now (available .entry)) (now (floor .entry)) (now (factors .entry)) parameter) ⌝ }
+    ensures floors { λ r. ⌜ r .floors ≡ floorsAfter market (intervalOf constraints (now (shadow .entry)) resources (now (lmp .entry)) (now (dispatch .entry)) (now (available .entry)) (now (floor .entry)) (now (factors .entry)) parameter) floors ⌝ }
+    ensures verdicts { λ r. ⌜ r .verdicts ≡ judgedVerdicts market (intervalOf constraints (now (shadow .entry)) resources (now (lmp .entry)) (now (dispatch .entry)) (now (available .entry)) (now (floor .entry)) (now (factors .entry)) parameter) ⌝ }
 {
-    let accepted = standing.accepted;
-    if Standing::MAX_INTERVALS <= accepted {
-        return refused(Outcome::Refused(Refusal::HourFull), standing);
-    }
-    let parameter = v.parameter;
     let judged = path::judged(
         market,
-        v.constraints,
-        &v.shadow,
-        v.resources,
-        &v.lmp,
-        &v.dispatch,
-        &v.available,
-        &v.floor,
-        &v.factors,
+        constraints,
+        shadow,
+        resources,
+        lmp,
+        dispatch,
+        available,
+        floor,
+        factors,
         parameter,
     );
     let outcome = judged.outcome;
-    let Outcome::Accepted = outcome else {
-        return refused(outcome, standing);
-    };
     let verdicts = judged.verdicts;
-    Taken {
+    let Outcome::Accepted = outcome else {
+        return Cutting {
+            outcome: outcome,
+            floors: floors,
+            verdicts: verdicts,
+        };
+    };
+    Cutting {
         outcome: outcome,
-        standing: cut(
-            standing,
+        floors: cut_each(
+            floors,
             verdicts,
-            v.constraints,
-            &v.shadow,
-            v.resources,
-            &v.lmp,
-            &v.dispatch,
-            &v.factors,
+            constraints,
+            shadow,
+            resources,
+            lmp,
+            dispatch,
+            factors,
             parameter,
         ),
         verdicts: verdicts,

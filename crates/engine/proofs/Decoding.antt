@@ -1,12 +1,12 @@
--- An hour is what it stands for: a promise about `asHour` says the whole hour. Assumes nothing.
+-- An hour is what it stands for: a promise about `asRealTime` says the whole hour. Assumes nothing.
 use mathlib.Core.Path.{_≡_, ap}
-use Rattle.rules_hour.specs.Hours as rules
-use Rattle.engine.specs.Hours.{asHour}
+use Rattle.rules_pass.specs.Passes.{RealTimeHour}
+use Rattle.engine.specs.Hours.{asRealTime}
 use Rattle.engine.specs.declared.Hour.{Hour}
 
-held : rules.Hour → Hour
-held h = record { market = h .market; rows = h .rows; standing = h .standing }
+held : RealTimeHour → Hour
+held h = record { market = h .hour .market; rows = h .hour .rows; standing = h .hour .standing; quarter = h .quarter }
 
-pub as-hour-one : (a b : Hour) → asHour a ≡ asHour b → a ≡ b
+pub as-real-time-one : (a b : Hour) → asRealTime a ≡ asRealTime b → a ≡ b
 unfolding held
-as-hour-one a b e = ap held e
+as-real-time-one a b e = ap held e

@@ -1,8 +1,8 @@
--- The refusals and their order (paper 01, Refused, by place). In definitions a refusal is its number in the paper's table, and 0 stands for none.
+-- The refusals and their order (paper 01, Refused, by place; paper 02 from 19 on). In definitions a refusal is its number in the paper's table, and 0 stands for none.
 use mathlib.Core.Bool.{Bool, cond}
 use Prim.Native.Nat.{ℕ, zero, suc}
 use Rattle.rules_curve.specs.declared.Refusal.{Refusal}
-use Rattle.rules_curve.specs.declared.Refusal.the-variants.{StepCount, Edge, Price, PointCount, Quantity, HeatRate, CostRange, IncrementalRate, Counts, Membership, OutsideDefault, HourFull, ResourceCount, ConstraintCount, IntervalRange, Output, Form, Length}
+use Rattle.rules_curve.specs.declared.Refusal.the-variants.{StepCount, Edge, Price, PointCount, Quantity, HeatRate, CostRange, IncrementalRate, Counts, Membership, OutsideDefault, HourFull, ResourceCount, ConstraintCount, IntervalRange, Output, Form, Length, PassTurn}
 use Rattle.rules_curve.specs.declared.Outcome.{Outcome}
 use Rattle.rules_curve.specs.declared.Outcome.the-variants.{Accepted, Refused}
 
@@ -26,6 +26,7 @@ numberOf IntervalRange = 15
 numberOf Output = 16
 numberOf Form = 17
 numberOf Length = 18
+numberOf PassTurn = 19
 
 -- the number of an outcome: 0 where the call is accepted
 abbrev pub outcomeNumber : Outcome → ℕ

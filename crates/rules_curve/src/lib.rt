@@ -32,7 +32,7 @@ pub enum Quote {
     Outside,
 }
 
-// Why a call is refused, one for each number of paper 01's table.
+// Why a call is refused, one for each number of paper 01's table and of the requests of paper 02.
 pub enum Refusal {
     StepCount,
     Edge,
@@ -52,6 +52,7 @@ pub enum Refusal {
     Output,
     Form,
     Length,
+    PassTurn,
 }
 
 pub enum Outcome {

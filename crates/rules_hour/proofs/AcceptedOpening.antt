@@ -103,6 +103,12 @@ module _ (o : Opening) (accepted : openingRefusal o ≡ 0) where
         record { begins = leb-true _ _ (b .0); ends = leb-true _ _ (b .1) }
 
 -- ---- the fresh hour
+-- no floor price is cut yet
+pub none-cut : (n r : ℕ) → getD (replicate n uncut) r uncut ≡ uncut
+none-cut zero r = refl
+none-cut (suc n) zero = refl
+none-cut (suc n) (suc r) = none-cut n r
+
 module _ (o : Opening) where
   -- a row for each resource
   pub fresh-row : (r : ℕ) → r < o .resources → rowAt (freshHour o) r ≡ rowOf (resourceAt o r)
@@ -116,9 +122,4 @@ module _ (o : Opening) where
 
   pub fresh-floor : (r : ℕ) → r < o .resources → floorIn (freshHour o) r ≡ uncut
   unfolding freshHour freshStanding
-  fresh-floor r l = filled 64 r
-    where
-      filled : (n i : ℕ) → getD (replicate n uncut) i uncut ≡ uncut
-      filled zero i = refl
-      filled (suc n) zero = refl
-      filled (suc n) (suc i) = filled n i
+  fresh-floor r l = none-cut 64 r

@@ -42,7 +42,7 @@ accepted-sound o calls v m = sound-member (o .resources) calls v (taken-member 4
 -- ---- one call
 module _ (h : Hour) (v : Interval) where
   -- how many are accepted after it
-  count-after : hourAfter h v .standing .accepted ≡ countedBy (hourRefusal h v) (h .standing .accepted)
+  pub count-after : hourAfter h v .standing .accepted ≡ countedBy (hourRefusal h v) (h .standing .accepted)
   unfolding hourAfter standingAfter nextStanding
   count-after = go (hourRefusal h v)
     where

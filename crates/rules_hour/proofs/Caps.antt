@@ -28,11 +28,10 @@ use Rattle.rules_path.proofs.PathLaws.{non-competitive}
 use Rattle.rules_opening.specs.Openings.{marketOf, openingRefusal}
 use Rattle.rules_opening.specs.declared.Opening.{Opening}
 use Rattle.rules_hour.specs.Cuts.{entering, component, competitivePrice, cutBy, cutOf}
-use Rattle.rules_hour.specs.Demand3.{acceptedCalls, withCap, capsIn, defaultOf, defaultPrice, quoteIn, caps, RisingFrom, Enters, Component, Competitive, CapIn, Cap, OneEach, none, one, no-other, howMany}
+use Rattle.rules_hour.specs.Demand3.{withCap, capsIn, defaultOf, defaultPrice, quoteIn, capsOf, RisingFrom, Enters, Component, Competitive, CapIn, Cap, OneEach, none, one, no-other, howMany}
 use Rattle.rules_hour.proofs.RisingLaws.{those-rising, rising-only}
 use Rattle.rules_hour.proofs.Counterflow.{enters-exactly}
 use Rattle.rules_hour.proofs.MarketLaws.{market-non-competitive}
-use Rattle.rules_hour.proofs.Answers.{accepted-sound}
 
 -- ---- the competitive price
 -- rounding up gives the competitive price
@@ -181,19 +180,13 @@ module _ (o : Opening) (accepted : openingRefusal o ≡ 0) (r q : ℕ) (d : ℤ)
   one-for-each-only (no-other {v = v} n rest) sound =
       rw (uncut-exactly o accepted v (sound v (List·Memᴰ·head refl)) r (n .C) (n .component) (n .either)) (one-for-each-only rest (λ u m. sound u (List·Memᴰ·tail m)))
 
--- y is the cap of one of these calls
-record Among (o : Opening) (r q : ℕ) (calls : List Interval) (y : ℤ) : Type 0 where
-  call : Interval
-  listed : List·Memᴰ call calls
-  in-call : CapIn o call r q y
-
 module _ (o : Opening) (r q : ℕ) (y : ℤ) where
   -- what holds of the calls after one holds of them all
-  later : (v : Interval) (calls : List Interval) → Among o r q calls y → Among o r q (v ∷ calls) y
+  later : (v : Interval) (calls : List Interval) → Cap o calls r q y → Cap o (v ∷ calls) r q y
   later v calls a = record { call = a .call; listed = List·Memᴰ·tail (a .listed); in-call = a .in-call }
 
   -- each cap is one of a call
-  among : {calls : List Interval} {l : List ℤ} → OneEach o r q calls l → List·Memᴰ y l → Among o r q calls y
+  among : {calls : List Interval} {l : List ℤ} → OneEach o r q calls l → List·Memᴰ y l → Cap o calls r q y
   among none m = absurd (List·Memᴰ·not-nil m)
   among (one {v = v} {calls = calls} c rest) m =
       ⊎-elim (λ e. record { call = v; listed = List·Memᴰ·head refl; in-call = rw e c }) (λ k. later v calls (among rest k)) (List·Memᴰ·cases-cons m)
@@ -223,35 +216,35 @@ count-caps m r d (v ∷ calls) =
     let t = ltZ (pos 0) (dispatchAt v r) && ltZ (pos 0) (component m v r) in
     count-one t _ d (capsIn m r d calls) ∙ ap (λ (n : ℕ). cond t 1 0 + n) (count-caps m r d calls)
 
--- ---- the caps of a quantity after a list of calls
-module _ (o : Opening) (accepted : openingRefusal o ≡ 0) (calls : List Interval) (r : ℕ) where
-  -- the component in each accepted interval
-  pub components : (v : Interval) → List·Memᴰ v (acceptedCalls o calls) → Component o v r (component (marketOf o) v r)
-  components v m = component-is o accepted v (accepted-sound o calls v m) r
+-- ---- the caps of a quantity in accepted calls, to each of which none of 13 to 16 applies
+module _ (o : Opening) (accepted : openingRefusal o ≡ 0) (calls : List Interval) (sound : (v : Interval) → List·Memᴰ v calls → intervalRefusal (o .resources) v ≡ 0) (r : ℕ) where
+  -- the component in each of them
+  pub components : (v : Interval) → List·Memᴰ v calls → Component o v r (component (marketOf o) v r)
+  components v m = component-is o accepted v (sound v m) r
 
   module _ (q : ℕ) where
-    -- There are as many caps as accepted intervals in which the resource is dispatched and its component above 0.
-    pub caps-number : length (caps o calls r q) ≡ howMany r (λ v. component (marketOf o) v r) (acceptedCalls o calls)
-    caps-number = count-caps (marketOf o) r (defaultPrice o r q) (acceptedCalls o calls)
+    -- There are as many caps as calls in which the resource is dispatched and its component above 0.
+    pub caps-number : length (capsOf o calls r q) ≡ howMany r (λ v. component (marketOf o) v r) calls
+    caps-number = count-caps (marketOf o) r (defaultPrice o r q) calls
 
     module _ (default : quoteIn (defaultOf o r) q ≡ answer.Price (defaultPrice o r q)) where
-      -- One for each such interval, and no other.
-      pub caps-one-each : OneEach o r q (acceptedCalls o calls) (caps o calls r q)
-      caps-one-each = one-for-each o accepted r q (defaultPrice o r q) default (acceptedCalls o calls) (accepted-sound o calls)
+      -- One for each such call, and no other.
+      pub caps-one-each : OneEach o r q calls (capsOf o calls r q)
+      caps-one-each = one-for-each o accepted r q (defaultPrice o r q) default calls sound
 
       -- No other list is that.
-      pub caps-only : (l : List ℤ) → OneEach o r q (acceptedCalls o calls) l → l ≡ caps o calls r q
-      caps-only l h = one-for-each-only o accepted r q (defaultPrice o r q) default h (accepted-sound o calls)
+      pub caps-only : (l : List ℤ) → OneEach o r q calls l → l ≡ capsOf o calls r q
+      caps-only l h = one-for-each-only o accepted r q (defaultPrice o r q) default h sound
 
       -- The caps are exactly those of the user's words.
-      pub capping-exactly : (y : ℤ) → List·Memᴰ y (caps o calls r q) ↔ Cap o calls r q y
+      pub capping-exactly : (y : ℤ) → List·Memᴰ y (capsOf o calls r q) ↔ Cap o calls r q y
       capping-exactly y = (
-        (λ h. let a = among o r q y caps-one-each h in record { call = a .call; accepted = a .listed; in-call = a .in-call }),
+        among o r q y caps-one-each,
         λ a.
             let c = a .in-call in
-            let s = accepted-sound o calls (a .call) (a .accepted) in
+            let s = sound (a .call) (a .listed) in
             let price = c .cap ∙ ap (λ (x : ℤ). maxZ x (c .price +ℤ a .call .parameter)) (same-price (c .default-price) default) in
             rw price
-            (caps-each (marketOf o) r (defaultPrice o r q) (c .price +ℤ a .call .parameter) (acceptedCalls o calls) (a .call) (a .accepted)
+            (caps-each (marketOf o) r (defaultPrice o r q) (c .price +ℤ a .call .parameter) calls (a .call) (a .listed)
             (cut-exactly o accepted (a .call) s r (c .C) (c .component) (c .dispatched) (c .above) (c .price) (c .competitive))),
       )

@@ -31,15 +31,15 @@ pub at-most-four : (o : Opening) (calls : List Interval) → length (acceptedCal
 at-most-four o calls = omega (arith, length-take 4 (soundCalls (o .resources) calls))
 
 -- 12 is no number of an interval's own checks
-other-then : (a b : ℕ) → (a ≡ 12 → ⊥) → (b ≡ 12 → ⊥) → (a then b) ≡ 12 → ⊥
+pub other-then : (a b : ℕ) → (a ≡ 12 → ⊥) → (b ≡ 12 → ⊥) → (a then b) ≡ 12 → ⊥
 other-then zero b h k e = k e
 other-then (suc a) b h k e = h e
 
-other-unless : (t : Bool) (n : ℕ) → (n ≡ 12 → ⊥) → unless t n ≡ 12 → ⊥
+pub other-unless : (t : Bool) (n : ℕ) → (n ≡ 12 → ⊥) → unless t n ≡ 12 → ⊥
 other-unless true n h e = omega arith
 other-unless false n h e = h e
 
-never-twelve : (n : ℕ) (v : Interval) → intervalRefusal n v ≡ 12 → ⊥
+pub never-twelve : (n : ℕ) (v : Interval) → intervalRefusal n v ≡ 12 → ⊥
 unfolding intervalRefusal
 never-twelve n v =
     other-then _ _

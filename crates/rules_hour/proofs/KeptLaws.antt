@@ -7,7 +7,7 @@ use Prim.Native.Nat.{ℕ, zero, suc, _≤_, _<_}
 use native.Mathlib.Nat.{zero-add, le-trans, le-of-eq}
 use borrow.Author.Tests.{lt-ltb, le-ltb}
 use lib.Dec.{ltb}
-use lib.ListN.{length}
+use lib.ListN.{length, getD}
 use Rattle.rules_number.proofs.OverLaws.{le-or-lt, upTo-in, upTo-length}
 use Rattle.rules_curve.specs.Refusals.{unless, _then_}
 use Rattle.rules_curve.specs.declared.Curve.{Curve}
@@ -16,15 +16,26 @@ use Rattle.rules_interval.specs.Intervals.{intervalRefusal}
 use Rattle.rules_interval.specs.declared.Interval.{Interval}
 use Rattle.rules_path.specs.declared.Market.{Market}
 use Rattle.rules_hour.specs.Cuts.{cutOf}
-use Rattle.rules_hour.specs.Hours.{uncut, rowAt, floorIn, curveIn, cutFloor, nextStanding, callRefusal, standingUnless, standingAfter, standingAt, hourRefusal, hourAfter, hourAfterAll}
+use Rattle.rules_hour.specs.Hours.{uncut, rowAt, floorIn, curveIn, cutFloor, cutFloors, nextStanding, callRefusal, standingUnless, standingAfter, standingAt, hourRefusal, hourAfter, hourAfterAll}
 use Rattle.rules_opening.specs.Openings.{marketOf, openingRefusal}
 use Rattle.rules_hour.specs.Opened.{freshHour, openedHour}
 use Rattle.rules_hour.specs.Demand3.{submitted, defaultOf, hourOf}
 use Rattle.rules_opening.specs.declared.Row.{Row}
 use Rattle.rules_hour.specs.Hours.{Hour}
+use Rattle.rules_hour.specs.declared.Floor.{Floor}
 use Rattle.rules_opening.specs.declared.Opening.{Opening}
 use Rattle.rules_hour.proofs.AcceptedOpening.{opened-hour, fresh-row, fresh-room}
 use Rattle.rules_opening.specs.Resources.{rowOf}
+
+-- ---- floor prices
+-- those of the resources that there are, each cut, and as many as before
+module _ (m : Market) (v : Interval) (floors : List Floor) where
+  pub floor-cut : (r : ℕ) → r < m .resources → r < length floors → getD (cutFloors m v floors) r uncut ≡ cutFloor (cutOf m v r) (getD floors r uncut)
+  floor-cut r l k =
+      upTo-in (λ i x. cutFloor (cutOf m v i) x) uncut 0 (m .resources) floors r l k ∙ ap (λ (i : ℕ). cutFloor (cutOf m v i) (getD floors r uncut)) (zero-add r)
+
+  pub floors-many : length (cutFloors m v floors) ≡ length floors
+  floors-many = upTo-length (λ i x. cutFloor (cutOf m v i) x) uncut 0 (m .resources) floors
 
 -- ---- one call
 -- the hour after an interval that it accepts
@@ -86,16 +97,15 @@ module _ (o : Opening) (h : Hour) (k : Kept o h) where
   pub next-floor : (v : Interval) (r : ℕ) → r < o .resources → floorIn (nextHour h v) r ≡ cutFloor (cutOf (marketOf o) v r) (floorIn h r)
   unfolding nextStanding
   next-floor v r l =
-      upTo-in (λ i x. cutFloor (cutOf (h .market) v i) x) uncut 0 (h .market .resources) (h .standing .floors) r
-      (le-trans l (le-of-eq (sym resources-kept))) (le-trans l (k .room))
-      ∙ ap₂ (λ (m : Market) (i : ℕ). cutFloor (cutOf m v i) (floorIn h r)) (k .market) (zero-add r)
+      floor-cut (h .market) v (h .standing .floors) r (le-trans l (le-of-eq (sym resources-kept))) (le-trans l (k .room))
+      ∙ ap (λ (m : Market). cutFloor (cutOf m v r) (floorIn h r)) (k .market)
 
   -- and keeps the rest
   pub next-kept : (v : Interval) → Kept o (nextHour h v)
   unfolding nextStanding
   next-kept v = record {
     market = k .market;
-    room = le-trans (k .room) (le-of-eq (sym (upTo-length (λ i x. cutFloor (cutOf (h .market) v i) x) uncut 0 (h .market .resources) (h .standing .floors))));
+    room = le-trans (k .room) (le-of-eq (sym (floors-many (h .market) v (h .standing .floors))));
     bid = k .bid;
     default = k .default;
   }

@@ -10,6 +10,7 @@ pub mod CallLaws
 pub mod Answers
 pub mod Caps
 pub mod CurveShape
+pub mod Owners
 pub mod Demand3
 pub mod FourIntervals
 pub mod IntervalStep

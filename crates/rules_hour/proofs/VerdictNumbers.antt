@@ -23,7 +23,7 @@ use Rattle.rules_path.specs.declared.Market.{Market}
 use Rattle.rules_path.specs.declared.Verdict.{Verdict}
 use Rattle.rules_path.proofs.BitLaws.{bit-zero}
 use Rattle.rules_path.proofs.PathVerdict.{non-competitive-exactly, not-binding-exactly, least-left, named-can-withhold, withheld-within-supply, withheld-of-named, withheld-of-others}
-use Rattle.rules_opening.specs.Openings.{sellerAt, openingRefusal}
+use Rattle.rules_opening.specs.Openings.{sellerAt, openingRefusal, marketOf}
 use Rattle.rules_opening.specs.declared.Opening.{Opening}
 use Rattle.rules_hour.specs.Hours.{callVerdicts, hourRefusal, hourVerdicts}
 use Rattle.rules_hour.specs.Demand3.{counterflowDemand, counterflowSupply, canWithhold, IsNetSeller, EachOnce, withheldBy, Enters, hourOf, pathFrom}
@@ -38,14 +38,19 @@ module _ (o : Opening) (calls : List Interval) (v : Interval) (accepted : openin
   unfolding callVerdicts
   refused-judges-nothing n e = ap (λ (x : ℕ). verdictsUnless x (verdictsOf (hourOf o calls .market) v)) e
 
-  -- an accepted call has a verdict on each of its constraints, that on the opening's own numbers
-  pub accepted-judges : hourRefusal (hourOf o calls) v ≡ 0 → (c : ℕ) → c < v .constraints → getD (hourVerdicts (hourOf o calls) v) c notBinding ≡ verdictOf (pathFrom o v c)
-  unfolding callVerdicts verdictsOf
-  accepted-judges e c l =
-      ap (λ (x : ℕ). getD (verdictsUnless x (verdictsOf (hourOf o calls .market) v)) c notBinding) e
-      ∙ cell-listed 32 notBinding notBinding (λ i. verdictOf (pathIn (hourOf o calls .market) v i)) (v .constraints) c l
-      ∙ ap (λ (m : Market). verdictOf (pathIn m v c)) (hour-kept o calls accepted .market)
+  -- the verdict on each constraint in the opening's market is that on its own numbers
+  pub market-judges : (m : Market) → m ≡ marketOf o → (c : ℕ) → c < v .constraints → getD (verdictsOf m v) c notBinding ≡ verdictOf (pathFrom o v c)
+  unfolding verdictsOf
+  market-judges m e c l =
+      cell-listed 32 notBinding notBinding (λ i. verdictOf (pathIn m v i)) (v .constraints) c l
+      ∙ ap (λ (x : Market). verdictOf (pathIn x v c)) e
       ∙ sym (same-verdict-numbers o v c accepted .verdict)
+
+  -- an accepted call has one on each of its constraints
+  pub accepted-judges : hourRefusal (hourOf o calls) v ≡ 0 → (c : ℕ) → c < v .constraints → getD (hourVerdicts (hourOf o calls) v) c notBinding ≡ verdictOf (pathFrom o v c)
+  unfolding callVerdicts
+  accepted-judges e c l =
+      ap (λ (x : ℕ). getD (verdictsUnless x (verdictsOf (hourOf o calls .market) v)) c notBinding) e ∙ market-judges (hourOf o calls .market) (hour-kept o calls accepted .market) c l
 
 -- x is what some choice of at most three net sellers leaves of supply, and no other choice leaves less
 pub record LeastLeft (o : Opening) (v : Interval) (c : ℕ) (x : ℤ) : Type 0 where

@@ -15,10 +15,13 @@ use Rattle.rules_number.specs.Over.{sumOver}
 use Rattle.rules_number.specs.Least.{IsLeast}
 use Rattle.rules_curve.specs.Curves.{stepsOf, endOf, priceAt, quote, curveOf}
 use Rattle.rules_curve.specs.Demands.{First, Met}
+use Rattle.rules_curve.specs.Meaning.{Rising}
+use Rattle.rules_curve.specs.declared.Step.{Step}
 use Rattle.rules_curve.specs.declared.Curve.{Curve}
 use Rattle.rules_curve.specs.declared.Quote.{Quote}
 use Rattle.rules_curve.specs.declared.Quote.the-variants as answer
 use Rattle.rules_mitigation.specs.Mitigation.{usedSteps}
+use Rattle.rules_mitigation.specs.Meaning.{Apart}
 use Rattle.rules_mitigation.specs.declared.Mitigated.{Mitigated}
 use Rattle.rules_mitigation.specs.declared.FloorPrice.{FloorPrice}
 use Rattle.rules_mitigation.specs.declared.FloorPrice.the-variants.{Uncut, Cut}
@@ -87,8 +90,12 @@ unfoldable pub capsIn : Market → ℕ → ℤ → List Interval → List ℤ
 capsIn m r d [] = []
 capsIn m r d (v ∷ calls) = withCap (cutOf m v r) d (capsIn m r d calls)
 
+-- those of quantity q in these accepted calls
+abbrev pub capsOf : Opening → List Interval → ℕ → ℕ → List ℤ
+capsOf o accepted r q = capsIn (marketOf o) r (defaultPrice o r q) accepted
+
 abbrev pub caps : Opening → List Interval → ℕ → ℕ → List ℤ
-caps o calls r q = capsIn (marketOf o) r (defaultPrice o r q) (acceptedCalls o calls)
+caps o calls r q = capsOf o (acceptedCalls o calls) r q
 
 -- ---- which constraints enter, in the opening's and the interval's own numbers
 -- f 0 + .. + f (n - 1)
@@ -173,10 +180,10 @@ pub record NoCapIn (o : Opening) (v : Interval) (r : ℕ) : Type 0 where
   pub component : Component o v r C
   pub either : (dispatchAt v r ≤ℤ pos 0) ⊎ (C ≤ℤ pos 0)
 
--- y is a cap of quantity q: that of an accepted interval
-pub record Cap (o : Opening) (calls : List Interval) (r q : ℕ) (y : ℤ) : Type 0 where
+-- y is a cap of quantity q: that of one of these accepted intervals
+pub record Cap (o : Opening) (accepted : List Interval) (r q : ℕ) (y : ℤ) : Type 0 where
   pub call : Interval
-  pub accepted : List·Memᴰ call (acceptedCalls o calls)
+  pub listed : List·Memᴰ call accepted
   pub in-call : CapIn o call r q y
 
 -- these are the caps of quantity q in these intervals, in their order: one for each that has one, and no other
@@ -224,30 +231,50 @@ hourOf o calls = hourAfterAll (openedHour o) calls
 abbrev pub curveAfter : Opening → List Interval → ℕ → Mitigated
 curveAfter o calls r = curveIn (hourOf o calls) r
 
--- the prices of quantity q are those that the submitted bid, the default curve and the curve after the list have of it
-pub record Quoted (o : Opening) (calls : List Interval) (r q : ℕ) : Type 0 where
-  pub before : quoteIn (submitted o r) q ≡ answer.Price (submittedPrice o r q)
-  pub default : quoteIn (defaultOf o r) q ≡ answer.Price (defaultPrice o r q)
-  pub after : quote (curveAfter o calls r .start) (usedSteps (curveAfter o calls r)) q ≡ answer.Price (priceAt (usedSteps (curveAfter o calls r)) q)
+-- the steps l, from p on, are the bid of resource r with each hundredth of a megawatt at the least of its price before, `before q`, and its caps in these accepted
+-- calls
+pub record CappedSteps (o : Opening) (r : ℕ) (before : ℕ → ℤ) (accepted : List Interval) (p : ℕ) (l : List Step) : Type 0 where
+  pub price : (q : ℕ) → InBid o r q → IsLeast (before q) (capsOf o accepted r q) (priceAt l q)
+  -- "this curve starts and ends where its submitted bid does"
+  pub starts : p ≡ submitted o r .start
+  pub ends : endOf p l ≡ endOf (submitted o r .start) (stepsOf (submitted o r))
+  -- "Neighbouring steps with one price are merged"
+  pub rising : Rising p l
+  pub apart : Apart l
 
-pub record Demand3 (o : Opening) (calls : List Interval) (r : ℕ) : Type 0 where
-  -- "the price of each hundredth of a megawatt in a resource's bid is the least of its submitted price and its caps"
-  pub price : (q : ℕ) → InBid o r q → IsLeast (submittedPrice o r q) (caps o calls r q) (priceAt (usedSteps (curveAfter o calls r)) q)
-  -- "Such a hundredth has one cap for each accepted interval of the list in which .., and no other."
-  pub capping : (q : ℕ) → InBid o r q → (y : ℤ) → List·Memᴰ y (caps o calls r q) ↔ Cap o calls r q y
-  pub one-each : (q : ℕ) → InBid o r q → OneEach o r q (acceptedCalls o calls) (caps o calls r q)
+-- c is that curve and no other is; each accepted call has its cap in the user's words
+pub record Capped (o : Opening) (r : ℕ) (before : ℕ → ℤ) (accepted : List Interval) (c : Mitigated) : Type 0 where
+  pub is : CappedSteps o r before accepted (c .start) (usedSteps c)
+  pub only : (p : ℕ) (l : List Step) → CappedSteps o r before accepted p l → (p ≡ c .start) × (l ≡ usedSteps c)
+  -- "19 steps always suffice"
+  pub nineteen : c .count ≤ 19
+  -- "one cap for each accepted interval of the list in which .., and no other"
+  pub capping : (q : ℕ) → InBid o r q → (y : ℤ) → List·Memᴰ y (capsOf o accepted r q) ↔ Cap o accepted r q y
+  pub one-each : (q : ℕ) → InBid o r q → OneEach o r q accepted (capsOf o accepted r q)
   -- as many caps as accepted intervals in which the resource is dispatched and its component C above 0
   pub C : Interval → ℤ
-  pub component : (v : Interval) → List·Memᴰ v (acceptedCalls o calls) → Component o v r (C v)
-  pub number : (q : ℕ) → length (caps o calls r q) ≡ howMany r C (acceptedCalls o calls)
+  pub component : (v : Interval) → List·Memᴰ v accepted → Component o v r (C v)
+  pub number : (q : ℕ) → length (capsOf o accepted r q) ≡ howMany r C accepted
+  -- the price is the one that the curve has of the quantity
+  pub quoted : (q : ℕ) → InBid o r q → quote (c .start) (usedSteps c) q ≡ answer.Price (priceAt (usedSteps c) q)
+
+-- the prices of quantity q are those that the submitted bid and the default curve have of it
+pub record Quoted (o : Opening) (r q : ℕ) : Type 0 where
+  pub before : quoteIn (submitted o r) q ≡ answer.Price (submittedPrice o r q)
+  pub default : quoteIn (defaultOf o r) q ≡ answer.Price (defaultPrice o r q)
+
+-- the owner's sentence, of the curve c of resource r where these intervals were accepted
+pub record Owned (o : Opening) (r : ℕ) (accepted : List Interval) (c : Mitigated) : Type 0 where
+  -- "the price of each hundredth of a megawatt in a resource's bid is the least of its submitted price and its caps"
+  pub capped : Capped o r (submittedPrice o r) accepted c
   -- "The submitted price is the price of that quantity in the bid that opening took, the default price its price in the resource's default curve."
-  pub quoted : (q : ℕ) → InBid o r q → Quoted o calls r q
+  pub quoted : (q : ℕ) → InBid o r q → Quoted o r q
   -- 11: the bid reaches nowhere outside its default curve, at its start or at its end; a quantity outside has no default price
   pub default-covers : (q : ℕ) → InBid o r q → InDefault o r q
   pub no-default : (q : ℕ) → (q < defaultOf o r .start) ⊎ (endOf (defaultOf o r .start) (stepsOf (defaultOf o r)) ≤ q) → quoteIn (defaultOf o r) q ≡ answer.Outside
-  -- "this curve starts and ends where its submitted bid does"
-  pub starts : curveAfter o calls r .start ≡ submitted o r .start
-  pub ends : endOf (curveAfter o calls r .start) (usedSteps (curveAfter o calls r)) ≡ endOf (submitted o r .start) (stepsOf (submitted o r))
+
+pub record Demand3 (o : Opening) (calls : List Interval) (r : ℕ) : Type 0 where
+  pub owned : Owned o r (acceptedCalls o calls) (curveAfter o calls r)
   -- "An interval call is accepted exactly when none of 12 to 16 applies, and 12 counts the accepted ones before it in the list."
   pub answered : Answered (o .resources) 0 calls (answers o calls)
   pub accepting : acceptedCalls o calls ≡ returningZero calls (answers o calls)

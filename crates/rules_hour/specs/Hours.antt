@@ -65,12 +65,21 @@ curveIn h r = rowCurve (rowAt h r) (floorIn h r)
 abbrev pub cutFloor : FloorPrice → Floor → Floor
 cutFloor k x = record { price = lowered (x .price) k }
 
+-- the floor price of each resource after its cut in an interval
+abbrev pub cutFloors : Market → Interval → List Floor → List Floor
+cutFloors m v floors = upTo (λ r x. cutFloor (cutOf m v r) x) 0 (m .resources) floors
+
+-- a refusal leaves them as they were
+abbrev pub floorsUnless : ℕ → List Floor → List Floor → List Floor
+floorsUnless zero next floors = next
+floorsUnless (suc n) next floors = floors
+
+unfoldable pub floorsAfter : Market → Interval → List Floor → List Floor
+floorsAfter m v floors = floorsUnless (intervalRefusal (m .resources) v) (cutFloors m v floors) floors
+
 -- the standing after an interval that the hour accepts
 unfoldable pub nextStanding : Market → Standing → Interval → Standing
-nextStanding m s v = record {
-  accepted = s .accepted + 1;
-  floors = upTo (λ r x. cutFloor (cutOf m v r) x) 0 (m .resources) (s .floors);
-}
+nextStanding m s v = record { accepted = s .accepted + 1; floors = cutFloors m v (s .floors) }
 
 -- 12: four are accepted already; then 13 to 16
 unfoldable pub callRefusal : Market → Standing → Interval → ℕ

@@ -3,14 +3,11 @@
 use Prim.Native.Nat.{ℕ, suc, _+_, _≤_, _<_}
 use mathlib.Core.Path.{_≡_, refl, sym, ap, ap₂, subst, _∙_}
 use mathlib.Core.List.{List, [], _∷_, _++_}
-use mathlib.Core.Logic.{⊎-elim}
 use native.Mathlib.Omega.{arith}
-use lib.IntN.{ℤ}
 use lib.ListN.{length, getD}
-use lib.Signed.{_≤ℤ_}
 use Rattle.rules_number.specs.Least.{IsLeast}
 use Rattle.rules_number.proofs.CellLaws.{cell-listed}
-use Rattle.rules_number.proofs.Kit.{var, eq-by, le-of}
+use Rattle.rules_number.proofs.LeastLaws.{least-only}
 use Rattle.rules_curve.specs.Curves.{stepsOf, priceAt}
 use Rattle.rules_curve.specs.Curves.{endOf as lastEnd}
 use Rattle.rules_curve.specs.Meaning.{Rising}
@@ -57,13 +54,6 @@ pub record TheCurve (o : Opening) (calls : List Interval) (r : ℕ) (steps : Lis
   pub demanded : Demanded o calls r steps
   pub only : (others : List Step) → Demanded o calls r others → others ≡ steps
 
--- two least numbers are one
-least-only : {x : ℤ} {l : List ℤ} {p q : ℤ} → IsLeast x l p → IsLeast x l q → p ≡ q
-least-only {x} {l} {p} {q} a b = eq-by (var p) (var q) (omega (arith, le-of (below a b), le-of (below b a)))
-  where
-    below : {p q : ℤ} → IsLeast x l p → IsLeast x l q → p ≤ℤ q
-    below {p} {q} a b = ⊎-elim (λ e. rw e (a .at-most-first)) (λ m. a .at-most-each q m) (b .attained)
-
 module _ (o : Opening) (accepted : openingRefusal o ≡ 0) (calls : List Interval) (r : ℕ) (l : r < o .resources) where
   curve-demanded : Demanded o calls r (usedSteps (curveAfter o calls r))
   curve-demanded =
@@ -73,7 +63,7 @@ module _ (o : Opening) (accepted : openingRefusal o ≡ 0) (calls : List Interva
         rising = subst (λ (p : ℕ). Rising p (usedSteps (curveAfter o calls r))) (s .starts) (s .rising);
         ends = subst (λ (p : ℕ). lastEnd p (usedSteps (curveAfter o calls r)) ≡ lastEnd (submitted o r .start) (stepsOf (submitted o r))) (s .starts) (s .ends);
         apart = s .apart;
-        price = d .price;
+        price = d .owned .capped .is .price;
       }
 
   demanded-only : (others : List Step) → Demanded o calls r others → others ≡ usedSteps (curveAfter o calls r)

@@ -9,9 +9,6 @@ use lib.Dec.{leb, ltb}
 use lib.ListN.{length, length-append}
 use lib.IntN.{pos}
 use lib.Seq.{sets}
-use Rattle.rules_curve.specs.Refusals.{numberOf}
-use Rattle.rules_curve.specs.declared.Refusal.{Refusal}
-use Rattle.rules_curve.specs.declared.Refusal.the-variants.{StepCount, Edge, Price, PointCount, Quantity, HeatRate, CostRange, IncrementalRate, Counts, Membership, OutsideDefault, HourFull, ResourceCount, ConstraintCount, IntervalRange, Output, Form, Length}
 use Rattle.rules_curve.proofs.CheckLaws.{then-both, unless-holds}
 use Rattle.rules_interval.specs.declared.Interval.{Interval}
 use Rattle.rules_hour.specs.Hours.{freshStanding, blankHour, callRefusal, nextStanding, standingUnless, standingAfter, hourRefusal, hourAfter}
@@ -96,26 +93,6 @@ module _ (h : Hour) (v : Interval) (g : hourRefusal h v ≡ 0) where
   pub accepts-counts : hourAfter h v .standing .accepted ≡ h .standing .accepted + 1
   unfolding hourAfter standingAfter nextStanding
   accepts-counts = ap (λ (n : ℕ). standingUnless n (nextStanding (h .market) (h .standing) v) (h .standing) .accepted) g
-
-pub number-few : (r : Refusal) → numberOf r ≤ 18
-number-few StepCount = omega arith
-number-few Edge = omega arith
-number-few Price = omega arith
-number-few PointCount = omega arith
-number-few Quantity = omega arith
-number-few HeatRate = omega arith
-number-few CostRange = omega arith
-number-few IncrementalRate = omega arith
-number-few Counts = omega arith
-number-few Membership = omega arith
-number-few OutsideDefault = omega arith
-number-few HourFull = omega arith
-number-few ResourceCount = omega arith
-number-few ConstraintCount = omega arith
-number-few IntervalRange = omega arith
-number-few Output = omega arith
-number-few Form = omega arith
-number-few Length = omega arith
 
 -- ---- what the parts of a text print
 module _ (ls : List Line) where

@@ -34,7 +34,7 @@ struct Ending {
 
 // Puts the lines of a refusal at an offset, and answers the offset after them, the number and the line.
 fn put_refusal(out: &mut [u8], at: usize, number: u64, line: usize) -> Ending
-    requires { ⌜ (at + 64 ≤ length (now out)) × ((number ≤ 18) × (line ≤ 200000)) ⌝ }
+    requires { ⌜ (at + 64 ≤ length (now out)) × ((number ≤ 99) × (line ≤ 200000)) ⌝ }
     ensures page { λ r. ⌜ now (out .exit) ≡ sets (now (out .entry)) at (refusalText number line) ⌝ }
     ensures next { λ r. ⌜ (r .at ≡ at + length (refusalText number line)) × (r .at ≤ at + 64) ⌝ }
     ensures end { λ r. ⌜ endedBy (r .number) (r .line) ≡ endedBy number line ⌝ }
@@ -114,7 +114,7 @@ fn put_intervals(
             return put_refusal(out, p, 17, fault);
         }
         let v = read.interval;
-        let taken = cutting::take_interval(standing, market, v);
+        let taken = taking::take_interval(standing, market, v);
         let outcome = taken.outcome;
         if let Outcome::Refused(refusal) = outcome {
             return put_refusal(out, p, curve::refusal_number(refusal), read.line);

@@ -1,13 +1,17 @@
-// The standing of an hour, what a cut makes of a floor price, and the present curve of a resource (paper 01, Interval and hour; 31.2.3, 34.1.5).
-// The contracts cite the definitions of rules_hour.
+// The standing of an hour, its quarter hour, what a cut makes of a floor price, and the present curve of a resource (paper 01, Interval and hour; 31.2.3, 34.1.5;
+// paper 02, 2.1). The contracts cite the definitions of rules_hour and rules_pass.
 ghost use mathlib.Core.Path.{_≡_};
-ghost use Rattle.rules_hour.specs.Hours.{freshStanding, cutFloor, rowCurve};
+ghost use Rattle.rules_curve.specs.Refusals.{outcomeNumber};
+ghost use Rattle.rules_hour.specs.Hours.{freshStanding, uncut, noRow, cutFloor, rowCurve};
+ghost use Rattle.rules_pass.specs.Passes.{freshQuarter, begunBy};
+use rules_curve::Outcome;
 use rules_hour::Floor;
 use rules_hour::Standing;
 use rules_interval::Interval;
 use rules_mitigation::FloorPrice;
 use rules_mitigation::Mitigated;
 use rules_opening::Row;
+use rules_pass::Quarter;
 
 // The standing of a freshly opened hour.
 pub fn fresh() -> Standing
@@ -15,6 +19,18 @@ pub fn fresh() -> Standing
 {
     Standing {
         accepted: 0,
+        floors: [Floor {
+            price: FloorPrice::Uncut,
+        }; Interval::MAX_RESOURCES],
+    }
+}
+
+// A quarter hour without a pass.
+pub fn fresh_quarter() -> Quarter
+    ensures { λ r. ⌜ r ≡ freshQuarter ⌝ }
+{
+    Quarter {
+        passes: 0,
         floors: [Floor {
             price: FloorPrice::Uncut,
         }; Interval::MAX_RESOURCES],
@@ -39,4 +55,21 @@ pub fn row_curve(row: Row, floor: Floor) -> Mitigated
     let default = row.default;
     let price = floor.price;
     mitigation::mitigated_curve(bid, default, price)
+}
+
+// The curve of a resource that an hour doesn't have.
+pub fn no_curve() -> Mitigated
+    ensures { λ x. ⌜ x ≡ rowCurve noRow uncut ⌝ }
+{
+    mitigation::mitigated_curve(curve::blank(), curve::blank(), FloorPrice::Uncut)
+}
+
+// The quarter hour after an interval with this outcome: a fresh one where it is accepted.
+pub fn begun(outcome: Outcome, quarter: Quarter) -> Quarter
+    ensures { λ r. ⌜ r ≡ begunBy (outcomeNumber outcome) quarter ⌝ }
+{
+    match outcome {
+        Outcome::Accepted => fresh_quarter(),
+        Outcome::Refused(_) => quarter,
+    }
 }

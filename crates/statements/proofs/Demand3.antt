@@ -25,7 +25,7 @@ use Rattle.rules_opening.specs.declared.Resource.{Resource}
 use Rattle.rules_opening.specs.declared.Opening.{Opening}
 use Rattle.rules_hour.specs.Hours.{Hour, curveIn, hourRefusal, hourAfter, hourAfterAll}
 use Rattle.rules_hour.specs.Opened.{openedHour}
-use Rattle.rules_hour.specs.Demand3.{acceptedCalls, sumOf, effectivenessOn, counterflowDemand, counterflowSupply, canWithhold, EachOnce, withheldBy, Enters, RisingFrom, Component, CapIn, NoCapIn, OneEach, none, one, no-other, howMany, answers, answersFrom, returningZero, countedBy, Answered, InBid, submittedPrice, defaultPrice, caps, Demand3}
+use Rattle.rules_hour.specs.Demand3.{acceptedCalls, sumOf, effectivenessOn, counterflowDemand, counterflowSupply, canWithhold, EachOnce, withheldBy, Enters, RisingFrom, Component, CapIn, NoCapIn, OneEach, none, one, no-other, howMany, answers, answersFrom, returningZero, countedBy, Answered, InBid, submittedPrice, defaultPrice, capsOf, caps, Capped, Owned, Demand3}
 use Rattle.rules_hour.specs.Conditions.{callDemands}
 use Rattle.rules_hour.proofs.AcceptedOpening.{few}
 use Rattle.rules_hour.proofs.Demand3.{demand-3}
@@ -136,37 +136,47 @@ abbrev many : ℕ → (Interval → ℤ) → List Interval → ℕ
 many r C [] = 0
 many r C (v ∷ calls) = cond (ltZ (pos 0) (getD (v .dispatch) r (pos 0)) && ltZ (pos 0) (C v)) 1 0 + many r C calls
 
-module _ (o : Opening) (calls : List Interval) (r : ℕ) where
-  -- "The price after the list is that in the resource's curve in the hour as the list leaves it"
-  abbrev pub after : Mitigated
-  after = curveIn (hourAfterAll (openedHour o) calls) r
+-- these intervals are accepted, and C is the component of resource r in each
+module _ (o : Opening) (r : ℕ) (A : List Interval) (C : Interval → ℤ) where
+  -- price is the least of another price before and the caps of quantity q: one cap for each of these intervals that has one, and no other
+  pub record CapsSay (q : ℕ) (before price : ℤ) : Type 0 where
+    pub caps : List ℤ
+    pub exactly : (y : ℤ) → List·Memᴰ y caps ↔ ((v : Interval) × List·Memᴰ v A × CapOf o v r q y)
+    pub one-each : EachOne o r q A caps
+    pub number : length caps ≡ many r C A
+    pub at-most-before : price ≤ℤ before
+    pub at-most-each : (y : ℤ) → List·Memᴰ y caps → price ≤ℤ y
+    pub one-of-them : (price ≡ before) ⊎ List·Memᴰ price caps
 
   -- "the price of each hundredth of a megawatt in a resource's bid is the least of its submitted price and its caps. Such a hundredth has one cap for each accepted interval of the list in which
-  -- the resource was dispatched and its non-competitive congestion component was above zero, and no other."
-  pub record PriceSays (C : Interval → ℤ) (q : ℕ) : Type 0 where
+  -- the resource was dispatched and its non-competitive congestion component was above zero, and no other.", of the curve that the list leaves
+  pub record PriceSays (after : Mitigated) (q : ℕ) : Type 0 where
     pub submitted : ℤ
     pub price : ℤ
     pub default-price : ℤ
     pub before : quote (bid o r .start) (stepsOf (bid o r)) q ≡ answer.Price submitted
     pub afterwards : quote (after .start) (usedSteps after) q ≡ answer.Price price
     pub inside : (default o r .start ≤ q) × (q < endOf (default o r .start) (stepsOf (default o r))) × (quote (default o r .start) (stepsOf (default o r)) q ≡ answer.Price default-price)
-    pub caps : List ℤ
-    pub exactly : (y : ℤ) → List·Memᴰ y caps ↔ ((v : Interval) × List·Memᴰ v (Accepted o calls) × CapOf o v r q y)
-    pub one-each : EachOne o r q (Accepted o calls) caps
-    pub number : length caps ≡ many r C (Accepted o calls)
-    pub at-most-submitted : price ≤ℤ submitted
-    pub at-most-each : (y : ℤ) → List·Memᴰ y caps → price ≤ℤ y
-    pub one-of-them : (price ≡ submitted) ⊎ List·Memᴰ price caps
+    pub capped : CapsSay q submitted price
+
+-- the curve of resource r where these intervals are accepted
+pub record OwnerSays (o : Opening) (r : ℕ) (A : List Interval) (after : Mitigated) : Type 0 where
+  pub C : Interval → ℤ
+  pub component : (v : Interval) → List·Memᴰ v A → IsComponent o v r (C v)
+  pub prices : (q : ℕ) → bid o r .start ≤ q → q < endOf (bid o r .start) (stepsOf (bid o r)) → PriceSays o r A C after q
+  -- a quantity outside the default curve has no default price
+  pub no-default : (q : ℕ) → (q < default o r .start) ⊎ (endOf (default o r .start) (stepsOf (default o r)) ≤ q) → quote (default o r .start) (stepsOf (default o r)) q ≡ answer.Outside
+  -- "this curve starts and ends where its submitted bid does"
+  pub starts : after .start ≡ bid o r .start
+  pub ends : endOf (after .start) (usedSteps after) ≡ endOf (bid o r .start) (stepsOf (bid o r))
+
+module _ (o : Opening) (calls : List Interval) (r : ℕ) where
+  -- "The price after the list is that in the resource's curve in the hour as the list leaves it"
+  abbrev pub after : Mitigated
+  after = curveIn (hourAfterAll (openedHour o) calls) r
 
   pub record Demand3Says : Type 0 where
-    pub C : Interval → ℤ
-    pub component : (v : Interval) → List·Memᴰ v (Accepted o calls) → IsComponent o v r (C v)
-    pub prices : (q : ℕ) → bid o r .start ≤ q → q < endOf (bid o r .start) (stepsOf (bid o r)) → PriceSays C q
-    -- a quantity outside the default curve has no default price
-    pub no-default : (q : ℕ) → (q < default o r .start) ⊎ (endOf (default o r .start) (stepsOf (default o r)) ≤ q) → quote (default o r .start) (stepsOf (default o r)) q ≡ answer.Outside
-    -- "this curve starts and ends where its submitted bid does"
-    pub starts : after .start ≡ bid o r .start
-    pub ends : endOf (after .start) (usedSteps after) ≡ endOf (bid o r .start) (stepsOf (bid o r))
+    pub owner : OwnerSays o r (Accepted o calls) after
     pub calls-say : CallsSay (o .resources) 0 calls (numbers (openedHour o) calls)
     pub counted : hourAfterAll (openedHour o) calls .standing .accepted ≡ length (Accepted o calls)
 
@@ -331,46 +341,61 @@ calls-say n a few (v ∷ calls) (x ∷ l) h =
     let e = exactly (callDemands a n v) x (h .1) in
     (and-so (h .0) (accepted-says a n x v few e), call-says a n x v few e, calls-say n (counting x a) few calls l (subst (λ (b : ℕ). Answered n b calls l) (counted-is x a) (h .2)))
 
+-- the caps of a curve whose accepted intervals are those of A
+module _ (o : Opening) (r : ℕ) {before : ℕ → ℤ} {accepted : List Interval} (A : List Interval) (c : Mitigated) (same : accepted ≡ A) (K : Capped o r before accepted c) where
+  pub caps-listed : (q : ℕ) → InBid o r q → (y : ℤ) → List·Memᴰ y (capsOf o accepted r q) ↔ ((v : Interval) × List·Memᴰ v A × CapOf o v r q y)
+  caps-listed q i y = and-so (K .capping q i y) (
+    (λ x. (x .call, rw same at (x .listed), cap-is o (x .call) r q y .0 (x .in-call))),
+    λ x. record { call = x .0; listed = rw same (x .1); in-call = cap-is o (x .0) r q y .1 (x .2) },
+  )
+
+  pub caps-say : (q : ℕ) → InBid o r q → CapsSay o r A (K .C) q (before q) (priceAt (usedSteps c) q)
+  caps-say q i =
+      let p = K .is .price q i in
+      record {
+        caps = capsOf o accepted r q;
+        exactly = caps-listed q i;
+        one-each = subst (λ (x : List Interval). EachOne o r q x (capsOf o accepted r q)) same (each-one o r q accepted (capsOf o accepted r q) (K .one-each q i));
+        number = K .number q ∙ many-is r (K .C) accepted ∙ ap (many r (K .C)) same;
+        at-most-before = p .at-most-first;
+        at-most-each = p .at-most-each;
+        one-of-them = p .attained;
+      }
+
+  pub components-say : (v : Interval) → List·Memᴰ v A → IsComponent o v r (K .C v)
+  components-say v m = component-is o v r (K .C v) .0 (K .component v (rw same m))
+
+pub owner-says : (o : Opening) (r : ℕ) {accepted : List Interval} (A : List Interval) (c : Mitigated) → accepted ≡ A → Owned o r accepted c → OwnerSays o r A c
+owner-says o r A c same W = record {
+  C = W .capped .C;
+  component = components-say o r A c same (W .capped);
+  prices = λ q low high.
+      let i : InBid o r q = record { from-start = low; below-end = high } in
+      let covers = W .default-covers q i in
+      record {
+        submitted = submittedPrice o r q;
+        price = priceAt (usedSteps c) q;
+        default-price = defaultPrice o r q;
+        before = W .quoted q i .before;
+        afterwards = W .capped .quoted q i;
+        inside = (covers .from-start, covers .below-end, W .quoted q i .default);
+        capped = caps-say o r A c same (W .capped) q i;
+      };
+  no-default = W .no-default;
+  starts = W .capped .is .starts;
+  ends = W .capped .is .ends;
+}
+
 module _ (o : Opening) (calls : List Interval) (r : ℕ) (D : Demand3 o calls r) where
   pub accepted-are : acceptedCalls o calls ≡ Accepted o calls
   accepted-are = D .accepting ∙ zeros-are calls (answers o calls) ∙ ap (withZero calls) (numbers-are (openedHour o) calls)
 
   pub caps-are : (q : ℕ) → InBid o r q → (y : ℤ) → List·Memᴰ y (caps o calls r q) ↔ ((v : Interval) × List·Memᴰ v (Accepted o calls) × CapOf o v r q y)
-  caps-are q i y = and-so (D .capping q i y) (
-    (λ c. (c .call, rw accepted-are at (c .accepted), cap-is o (c .call) r q y .0 (c .in-call))),
-    λ c. record { call = c .0; accepted = rw accepted-are (c .1); in-call = cap-is o (c .0) r q y .1 (c .2) },
-  )
-
-  price-says : (q : ℕ) → bid o r .start ≤ q → q < endOf (bid o r .start) (stepsOf (bid o r)) → PriceSays o calls r (D .C) q
-  price-says q low high =
-      let i : InBid o r q = record { from-start = low; below-end = high } in
-      let p = D .price q i in
-      let quoted = D .quoted q i in
-      let covers = D .default-covers q i in
-      record {
-        submitted = submittedPrice o r q;
-        price = priceAt (usedSteps (after o calls r)) q;
-        default-price = defaultPrice o r q;
-        before = quoted .before;
-        afterwards = quoted .after;
-        inside = (covers .from-start, covers .below-end, quoted .default);
-        caps = caps o calls r q;
-        exactly = caps-are q i;
-        one-each = subst (λ (A : List Interval). EachOne o r q A (caps o calls r q)) accepted-are (each-one o r q (acceptedCalls o calls) (caps o calls r q) (D .one-each q i));
-        number = D .number q ∙ many-is r (D .C) (acceptedCalls o calls) ∙ ap (many r (D .C)) accepted-are;
-        at-most-submitted = p .at-most-first;
-        at-most-each = p .at-most-each;
-        one-of-them = p .attained;
-      }
+  caps-are = caps-listed o r (Accepted o calls) (after o calls r) accepted-are (D .owned .capped)
 
   pub demand3-says : o .resources ≤ 64 → Demand3Says o calls r
   demand3-says at-most = record {
-    C = D .C;
-    component = λ v m. component-is o v r (D .C v) .0 (D .component v (rw accepted-are m));
-    prices = price-says;
-    no-default = D .no-default;
-    starts = D .starts;
-    ends = D .ends;
+    owner = owner-says o r (Accepted o calls) (after o calls r) accepted-are (D .owned);
     calls-say = rw (← numbers-are (openedHour o) calls) (calls-say (o .resources) 0 at-most calls (answers o calls) (D .answered));
     counted = rw (← accepted-are) (D .counted);
   }

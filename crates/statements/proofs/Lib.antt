@@ -12,5 +12,6 @@ pub mod Tables
 pub mod Parts
 pub mod Demand3
 pub mod Hours
+pub mod Passes
 pub mod Runs
 pub mod Programs

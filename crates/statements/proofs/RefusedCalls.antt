@@ -80,7 +80,7 @@ module _ (n : ℕ) (v : Interval) (few : n ≤ 64) where
   abbrev items : List Item
   items = (13 says count-is) ∷ (14 says constraints-are) ∷ (15 says limits-are) ∷ (16 says outputs-are) ∷ []
 
-  met-is : Met (intervalDemands n v) ↔ (Resources n v × (Constraints n v × (Limits n v × Outputs n v)))
+  pub met-is : Met (intervalDemands n v) ↔ (Resources n v × (Constraints n v × (Limits n v × Outputs n v)))
   met-is = (
     (λ m. (m .0, (m .1 .0, (limits-are .0 (m .1 .1 .0), outputs-are .0 (m .1 .1 .1 .0))))),
     λ h. (h .0, (h .1 .0, (limits-are .1 (h .1 .1 .0), (outputs-are .1 (h .1 .1 .1), tt)))),
@@ -99,6 +99,10 @@ module _ (n : ℕ) (v : Interval) (few : n ≤ 64) where
         no-other = only items r e 13 16 refl;
       }
 
+  -- what each number says of the values
+  pub number-says : (k : ℕ) → First k (intervalDemands n v) ↔ (intervalRefusal n v ≡ k)
+  number-says k = let e = interval-exactly n v few k in (e .1, e .0)
+
 -- n is how many resources the hour has
 module _ (accepted n r : ℕ) (v : Interval) (few : n ≤ 64) (exactly : (k : ℕ) → (r ≡ k) ↔ First k (callDemands accepted n v)) where
   room : (accepted < 4) ↔ (accepted < 4)
@@ -107,16 +111,13 @@ module _ (accepted n r : ℕ) (v : Interval) (few : n ≤ 64) (exactly : (k : �
   full : (accepted < 4 → ⊥) ↔ (4 ≤ accepted)
   full = ((λ h. ⊎-elim (λ a. a) (λ a. absurd (h a)) (le-or-lt 4 accepted)), λ h a. omega arith)
 
-  interval-first : (k : ℕ) → First k (intervalDemands n v) ↔ (intervalRefusal n v ≡ k)
-  interval-first k = let e = interval-exactly n v few k in (e .1, e .0)
-
   unsaid : First 12 (intervalDemands n v) → ⊥
-  unsaid f = let e = interval-first 12 .0 f in ⊎-elim (λ y. omega arith) (λ y. omega (arith, y .0)) (interval n v few .no-other)
+  unsaid f = let e = number-says n v few 12 .0 f in ⊎-elim (λ y. omega arith) (λ y. omega (arith, y .0)) (interval n v few .no-other)
 
   pub call-says : CallSays accepted (intervalRefusal n v) r
   call-says = record {
     twelve = and-so (exactly 12) (and-so (stopped 12 12 (intervalDemands n v) room refl (omega arith) unsaid) full);
-    others = λ k other. and-so (exactly k) (passed k 12 (intervalDemands n v) room other (interval-first k));
+    others = λ k other. and-so (exactly k) (passed k 12 (intervalDemands n v) room other (number-says n v few k));
   }
 
   pub accepted-says : Met (callDemands accepted n v) ↔ ((accepted < 4) × (Resources n v × (Constraints n v × (Limits n v × Outputs n v))))

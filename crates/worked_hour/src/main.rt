@@ -1,5 +1,6 @@
-// Runs hours through the public calls and prints each answer: packs for no resource, for all and for one; a refused opening; and, of the last hour, a
-// refused call in the middle, four accepted calls and a fifth. The resources are those of paper 01's Case T and P9.
+// Runs hours through the public calls and prints each answer: packs for no resource, for all and for one; a refused opening; of the third hour, a
+// refused call in the middle, four accepted calls and a fifth; and an hour with five-minute passes. The resources are those of paper 01's Case T and P9.
+use engine::Answer;
 use engine::Hour;
 use libc::STDOUT_FILENO;
 use rules_cost::Costs;
@@ -35,9 +36,9 @@ fn print_verdict(v: Verdict) {
     io::write_all(STDOUT_FILENO, b"\n");
 }
 
-// A line for a curve: resource, then end and price of each step.
-fn print_curve(r: u64, c: Mitigated) {
-    print(b"curve ", r);
+// A line for a curve: its label, resource, then end and price of each step.
+fn print_curve(label: &[u8], r: u64, c: Mitigated) {
+    print(label, r);
     let mut i: usize = 0;
     while i < Mitigated::MAX_STEPS {
         if i < c.count {
@@ -51,8 +52,13 @@ fn print_curve(r: u64, c: Mitigated) {
 }
 
 fn print_curves(hour: Hour) {
-    print_curve(0, hour.curve(0));
-    print_curve(1, hour.curve(1));
+    print_curve(b"curve ", 0, hour.curve(0));
+    print_curve(b"curve ", 1, hour.curve(1));
+}
+
+fn print_five_minute(hour: Hour) {
+    print_curve(b"five-minute ", 0, hour.five_minute(0));
+    print_curve(b"five-minute ", 1, hour.five_minute(1));
 }
 
 fn step(end: i64, price: i64) -> RawStep {
@@ -183,16 +189,33 @@ fn interval(shadow: i64, lmp: i64, parameter: i64) -> Interval {
     }
 }
 
-// One call, its answer printed; the hour as the call leaves it.
-fn call(hour: Hour, v: Interval) -> Hour {
-    let answer = hour.interval(v);
+// An answer printed; the hour that it hands back.
+fn answered(label: &[u8], answer: Answer) -> Hour {
     let verdicts = answer.verdicts;
     let next = answer.hour;
     let outcome = answer.outcome;
     let verdict = verdicts[0];
-    print_outcome(b"interval ", outcome);
+    print_outcome(label, outcome);
     print_verdict(verdict);
     print_curves(next);
+    next
+}
+
+// An interval.
+fn call(hour: Hour, v: Interval) -> Hour {
+    answered(b"interval ", hour.interval(v))
+}
+
+// An interval, and a pass, with the five-minute curves printed too.
+fn quarter(hour: Hour, v: Interval) -> Hour {
+    let next = call(hour, v);
+    print_five_minute(next);
+    next
+}
+
+fn pass(hour: Hour, v: Interval) -> Hour {
+    let next = answered(b"pass ", hour.pass(v));
+    print_five_minute(next);
     next
 }
 
@@ -204,6 +227,23 @@ fn open(o: Opening) -> Hour {
     print_outcome(b"opening ", outcome);
     print_curves(hour);
     hour
+}
+
+// An hour with passes: one before any interval; three and a fourth after the first, a refused one among them; a quarter hour without a cut; and one in a full hour.
+fn passes() {
+    let hour = open(opening(case_t_packed(0), p9(1)));
+    let hour = pass(hour, interval(500_000, 600_000, 100));
+    let hour = quarter(hour, interval(500_000, 749_900, 100));
+    let hour = pass(hour, interval(500_000, 650_000, 100));
+    let hour = pass(hour, interval(500_000, 600_000, 101));
+    let hour = pass(hour, interval(500_000, 749_900, 100));
+    let hour = pass(hour, interval(500_000, 600_000, 100));
+    let hour = pass(hour, interval(500_000, 600_000, 101));
+    let hour = quarter(hour, interval(0, 600_000, 100));
+    let hour = call(hour, interval(0, 600_000, 100));
+    let hour = call(hour, interval(0, 600_000, 100));
+    let hour = pass(hour, interval(500_000, 650_000, 100));
+    quarter(hour, interval(500_000, 600_000, 100));
 }
 
 fn main() {
@@ -223,4 +263,6 @@ fn main() {
     let hour = call(hour, interval(500_000, 749_900, 100));
     let hour = call(hour, interval(0, 600_000, 100));
     call(hour, interval(500_000, 600_000, 100));
+    io::write_all(STDOUT_FILENO, b"passes\n");
+    passes();
 }

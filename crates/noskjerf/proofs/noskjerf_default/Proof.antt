@@ -7,10 +7,9 @@ use mir.Syntax.{w64}
 use mir.Facts.{toZ-pos}
 use lib.IntN.{pos}
 use Rattle.rules_curve.specs.Refusals.{outcomeNumber}
-use Rattle.rules_curve.proofs.RefusalLaws.{refused-number}
+use Rattle.rules_curve.proofs.RefusalLaws.{refused-number, two-digits}
 use Rattle.rules_cost.specs.Costs.{costRefusal}
 use Rattle.rules_cost.specs.declared.Costs.{Costs}
-use Rattle.rules_run.proofs.RunLaws.{number-few}
 use Rattle.rules_library.specs.Slices.{costsIn}
 use Rattle.noskjerf.proofs.DefaultLaws.{Answered, few-edges, few-prices, refused, written}
 use Rattle.noskjerf.proofs.noskjerf_default.Statement.{statement}
@@ -42,8 +41,8 @@ refusal-number-requires c κs = search needs
 refusal : (c : tie.After-refusal-number) → costRefusal (c .before .before .before .before .before .costs-in .result) ≡ c .refusal-number .result
 refusal c = sym (c .before .before .before .before .default-curve .ensures .0) ∙ ap outcomeNumber (c .before .before .outcome .given .1) ∙ sym (c .refusal-number .ensures)
 
-few : (c : tie.After-refusal-number) → (0 < c .refusal-number .result) × (c .refusal-number .result ≤ 18)
-few c = let r = c .before .before .outcome .given .0 .0 in (omega (arith, c .refusal-number .ensures, refused-number r), omega (arith, c .refusal-number .ensures, number-few r))
+few : (c : tie.After-refusal-number) → (0 < c .refusal-number .result) × (c .refusal-number .result ≤ 99)
+few c = let r = c .before .before .outcome .given .0 .0 in (omega (arith, c .refusal-number .ensures, refused-number r), omega (arith, c .refusal-number .ensures, two-digits r))
 
 cast-result : tie.Need-cast-result
 cast-result c = record { sfits = omega (arith, few c .1) }

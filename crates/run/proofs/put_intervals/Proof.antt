@@ -18,11 +18,10 @@ use Rattle.engine.specs.Hours.{asHour}
 use Rattle.rules_text.specs.Printing.{refusalText}
 use Rattle.rules_parts.specs.Parts.{readInterval}
 use Rattle.read_interval.specs.Shown.{reading}
-use Rattle.rules_curve.proofs.RefusalLaws.{refused-number}
+use Rattle.rules_curve.proofs.RefusalLaws.{refused-number, two-digits}
 use Rattle.rules_page.specs.Pages.{verdictText, curveText}
 use Rattle.rules_text.proofs.ListLaws.{sets-append}
 use Rattle.rules_run.specs.Run.{pageLeaving, pageOf, hourText, hourEnd}
-use Rattle.rules_run.proofs.RunLaws.{number-few}
 use Rattle.run.proofs.GoingLaws.{Going, positive, within, refused-room, read-faulty, read-found, going-start, going-done, going-faulty, going-refused, done-end, faulty-ends, refused-ends, going-few, faulty-few, left-after, going-next}
 use Rattle.run.proofs.put_intervals.Statement.{statement}
 use Rattle.run.proofs.put_intervals.Tie as tie
@@ -128,7 +127,7 @@ put-refusal-requires-2 c κs =
     let l = e .before .before .before in
     let w = l .loop .inv in (
       omega (arith, w .few, w .high, w .put .long, begin l .pre .1 .0),
-      (omega (arith, c .refusal-number .ensures, number-few (c .before .before .before .outcome .given .0 .0)), omega (arith, left-after w (e .before .before .loop-test .taken) _ _ _ (is-found e))),
+      (omega (arith, c .refusal-number .ensures, two-digits (c .before .before .before .outcome .given .0 .0)), omega (arith, left-after w (e .before .before .loop-test .taken) _ _ _ (is-found e))),
     )
 
 returns-2 : tie.Need-returns-2 Inv-loop μ-loop

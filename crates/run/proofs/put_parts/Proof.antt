@@ -7,9 +7,10 @@ use borrow.Author.Needs.{needs}
 use lib.ListN.{length, drop}
 use lib.Seq.{sets, length-sets}
 use Rattle.rules_curve.specs.Refusals.{outcomeNumber}
-use Rattle.rules_curve.proofs.RefusalLaws.{refused-number}
+use Rattle.rules_curve.proofs.RefusalLaws.{refused-number, two-digits}
 use Rattle.rules_opening.specs.Openings.{openingRefusal}
 use Rattle.rules_hour.specs.Hours.{Hour}
+use Rattle.rules_pass.specs.Passes.{RealTimeHour, openedRealTime}
 use Rattle.engine.specs.Hours.{asHour}
 use Rattle.rules_text.specs.Numbers.{lines}
 use Rattle.rules_text.specs.Tables.{faulty, found}
@@ -17,7 +18,7 @@ use Rattle.rules_text.specs.Printing.{refusalText}
 use Rattle.rules_text.proofs.LineLaws.{lines-few}
 use Rattle.rules_parts.specs.Parts.{readOpening}
 use Rattle.rules_run.specs.Run.{hourText, Ended, endedBy, hourEnd}
-use Rattle.rules_run.proofs.RunLaws.{number-few, parts-faulty, parts-faulty-few, parts-refused, parts-accepted, parts-left, opened-fresh}
+use Rattle.rules_run.proofs.RunLaws.{parts-faulty, parts-faulty-few, parts-refused, parts-accepted, parts-left, opened-fresh}
 use Rattle.rules_run.proofs.EndLaws.{parts-faulty-end, parts-refused-end, parts-accepted-end}
 use Rattle.run.proofs.GoingLaws.{positive, read-faulty, read-found}
 use Rattle.run.proofs.put_parts.Statement.{statement}
@@ -93,7 +94,7 @@ opened n = n .before .before .before .before .before .before
 put-refusal-requires-2 : tie.Need-put-refusal-requires-2
 put-refusal-requires-2 c κs =
     let e = opened c in
-    (omega (arith, e .before .before .before .before .pre .0), (omega (arith, c .refusal-number .ensures, number-few (c .before .before .before .outcome .given .0 .0)), omega (arith, left e)))
+    (omega (arith, e .before .before .before .before .pre .0), (omega (arith, c .refusal-number .ensures, two-digits (c .before .before .before .outcome .given .0 .0)), omega (arith, left e)))
 
 same-length-2 : tie.Need-same-length-2
 same-length-2 c =
@@ -120,10 +121,11 @@ abbrev begun : tie.After-enum-told → tie.Else1
 begun t = t .before .before .before
 
 put-intervals-requires : tie.Need-put-intervals-requires
+unfolding openedRealTime
 put-intervals-requires c κs =
     let t = c .before .before in
     let e = begun t in
-    (ap (λ (h : Hour). h .standing .accepted) (t .before .before .open .ensures .1) ∙ opened-fresh (e .before .opening-at .result .opening), (e .before .before .before .before .pre .0, left e))
+    (ap (λ (h : RealTimeHour). h .hour .standing .accepted) (t .before .before .open .ensures .1) ∙ opened-fresh (e .before .opening-at .result .opening), (e .before .before .before .before .pre .0, left e))
 
 -- what the intervals of the opened hour print
 abbrev rest : tie.After-enum-told → List ℕ
@@ -138,12 +140,13 @@ same-length-3 c =
     ap length (q .put-intervals .ensures .0) ∙ length-sets (begun t .before .before .before .before .args .out .now) 0 (rest t)
 
 returns-3 : tie.Need-returns-3
+unfolding openedRealTime
 returns-3 c =
     let q = c .before .before in
     let t = q .before .before .before in
     let e = begun t in
     let r = e .before .opening-at .result in
-    let same = sym (t .before .before .open .ensures .1) in
+    let same = sym (ap (λ (h : RealTimeHour). h .hour) (t .before .before .open .ensures .1)) in
     let p = q .put-intervals .ensures in
     puts (e .before .before .before .before .args .out .now) (q .put-intervals .last .1 .1 .1 .1 .0) (rest t) _ (q .put-intervals .result .at) _ _ _
     (parts-accepted _ _ _ _ (is-found e) (none t) ∙ ap (λ (h : Hour). hourText h (r .line) (lines (drop (r .next) (text (e .before))))) same)

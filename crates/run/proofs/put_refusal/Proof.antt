@@ -13,7 +13,7 @@ use Rattle.run.proofs.put_refusal.Statement.{statement}
 use Rattle.run.proofs.put_refusal.Tie as tie
 
 -- small numbers are printed as they are
-shown : (n l : ℕ) → n ≤ 18 → l ≤ 200000 → refusalText (printable n) (printable l) ≡ refusalText n l
+shown : (n l : ℕ) → n ≤ 99 → l ≤ 200000 → refusalText (printable n) (printable l) ≡ refusalText n l
 shown n l h k = ap (λ (x : ℕ). refusalText x (printable l)) (let e : printable n ≡ n = omega arith in e) ∙ ap (refusalText n) (let e : printable l ≡ l = omega arith in e)
 
 print-refusal-requires : tie.Need-print-refusal-requires

@@ -5,13 +5,10 @@ use Rattle.worked_hour.proofs.print_curve.Statement.{statement}
 use Rattle.worked_hour.proofs.print_curve.Tie as tie
 
 abbrev Inv-loop : tie.InvT-loop
-Inv-loop r c i₀ t7 t8 t9 i = i ≤ 19
+Inv-loop label r c i₀ t7 t8 t9 i = i ≤ 19
 
 abbrev μ-loop : tie.MeasureT-loop
-μ-loop r c i₀ t7 t8 t9 i = 19 - i
-
-slice-aggregate-print : tie.Need-slice-aggregate-print Inv-loop μ-loop
-slice-aggregate-print c = search needs
+μ-loop label r c i₀ t7 t8 t9 i = 19 - i
 
 print-requires : tie.Need-print-requires Inv-loop μ-loop
 print-requires c κs = search needs
@@ -25,14 +22,14 @@ mul-step c = search needs
 element-copy-out-step : tie.Need-element-copy-out-step Inv-loop μ-loop
 element-copy-out-step c = search needs
 
-slice-aggregate-print-2 : tie.Need-slice-aggregate-print-2 Inv-loop μ-loop
-slice-aggregate-print-2 c = search needs
+slice-aggregate-print : tie.Need-slice-aggregate-print Inv-loop μ-loop
+slice-aggregate-print c = search needs
 
 print-requires-2 : tie.Need-print-requires-2 Inv-loop μ-loop
 print-requires-2 c κs = search needs
 
-slice-aggregate-print-3 : tie.Need-slice-aggregate-print-3 Inv-loop μ-loop
-slice-aggregate-print-3 c = search needs
+slice-aggregate-print-2 : tie.Need-slice-aggregate-print-2 Inv-loop μ-loop
+slice-aggregate-print-2 c = search needs
 
 whole-requires : tie.Need-whole-requires Inv-loop μ-loop
 whole-requires c κs = search needs
@@ -64,14 +61,13 @@ print-curve-spec =
     (tie.spec
     Inv-loop
     μ-loop
-    slice-aggregate-print
     print-requires
     loop-holds
     mul-step
     element-copy-out-step
-    slice-aggregate-print-2
+    slice-aggregate-print
     print-requires-2
-    slice-aggregate-print-3
+    slice-aggregate-print-2
     whole-requires
     print-requires-3
     add-i

@@ -1,14 +1,9 @@
 -- `engine::Hour::curve` meets its contract. Assumes nothing.
 use borrow.Author.Needs.{needs}
-use mathlib.Core.Path.{_≡_, refl, sym, ap, ap₂, _∙_}
+use mathlib.Core.Path.{_≡_, sym, ap₂, _∙_}
 use Prim.Native.Nat.{_≤_}
 use native.Mathlib.Omega.{arith}
 use lib.ListN.{length, length-map, List·getD-eq-default}
-use Rattle.rules_number.specs.Over.{padded}
-use Rattle.rules_curve.specs.Curves.{blankCurve}
-use Rattle.rules_curve.specs.declared.Curve.{Curve}
-use Rattle.rules_mitigation.specs.Mitigation.{segmentsN, joined, mitigated}
-use Rattle.rules_mitigation.specs.declared.FloorPrice.the-variants.{Uncut}
 use Rattle.rules_hour.specs.Hours.{uncut, noRow, rowCurve, curveIn}
 use Rattle.engine.proofs.Hour.curve.Statement.{statement}
 use Rattle.engine.proofs.Hour.curve.Tie as tie
@@ -19,11 +14,6 @@ rows-length c = simp length-map at (c .good .0 .1 .1 .1 .0 .1 .0 .1)
 
 floors-length : (c : tie.Start) → length (c .args .t1 .standing .floors) ≡ 64
 floors-length c = simp length-map at (c .good .0 .1 .1 .1 .1 .0 .1 .1 .1 .0 .1 .0 .1)
-
--- a row past the end is as blank as can be
-nothing : mitigated Uncut blankCurve blankCurve ≡ rowCurve noRow uncut
-unfolding mitigated segmentsN joined blankCurve padded
-nothing = refl
 
 mul-row : tie.Need-mul-row
 mul-row c = search needs
@@ -40,14 +30,8 @@ element-copy-out-floor c = search needs
 row-curve-requires : tie.Need-row-curve-requires
 row-curve-requires c κs = search needs
 
-blank-requires : tie.Need-blank-requires
-blank-requires c κs = search needs
-
-blank-requires-2 : tie.Need-blank-requires-2
-blank-requires-2 c κs = search needs
-
-mitigated-curve-requires : tie.Need-mitigated-curve-requires
-mitigated-curve-requires c κs = search needs
+no-curve-requires : tie.Need-no-curve-requires
+no-curve-requires c κs = search needs
 
 returns : tie.Need-returns
 unfolding curveIn
@@ -56,12 +40,11 @@ returns c = c .row-curve .ensures
 returns-2 : tie.Need-returns-2
 unfolding curveIn
 returns-2 c =
-    let s = c .before .before .before .before .before in
+    let s = c .before .before .before in
     let a = s .args .t1 in
     let past : length (a .rows) ≤ s .args .r = omega (arith, rows-length s) in
     let behind : length (a .standing .floors) ≤ s .args .r = omega (arith, floors-length s) in
-    c .mitigated-curve .ensures ∙ ap₂ (λ (x y : Curve). mitigated Uncut x y) (c .before .before .blank .ensures) (c .before .blank2 .ensures) ∙ nothing
-    ∙ ap₂ rowCurve (sym (List·getD-eq-default (a .rows) noRow past)) (sym (List·getD-eq-default (a .standing .floors) uncut behind))
+    c .no-curve .ensures ∙ ap₂ rowCurve (sym (List·getD-eq-default (a .rows) noRow past)) (sym (List·getD-eq-default (a .standing .floors) uncut behind))
 
 pub curve-spec : {M : Type 1} → statement M
 curve-spec =
@@ -72,8 +55,6 @@ curve-spec =
     mul-floor
     element-copy-out-floor
     row-curve-requires
-    blank-requires
-    blank-requires-2
-    mitigated-curve-requires
+    no-curve-requires
     returns
     returns-2)

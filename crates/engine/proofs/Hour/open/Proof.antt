@@ -1,6 +1,6 @@
 -- `engine::Hour::open` meets its contract. Assumes nothing.
 use Prim.Native.Nat.{ℕ, zero, suc}
-use mathlib.Core.Path.{_≡_, refl}
+use mathlib.Core.Path.{_≡_, refl, ap}
 use mathlib.Core.List.{List}
 use borrow.Author.Needs.{needs}
 use Rattle.rules_path.specs.declared.Market.{Market}
@@ -9,6 +9,7 @@ use Rattle.rules_opening.specs.Openings.{openingRefusal, marketOf, rowsOf, mark
 use Rattle.rules_opening.specs.declared.Opening.{Opening}
 use Rattle.rules_hour.specs.Hours.{Hour, freshStanding, blankHour}
 use Rattle.rules_hour.specs.Opened.{freshHour, hourUnless, openedHour}
+use Rattle.rules_pass.specs.Passes.{freshQuarter, openedRealTime}
 use Rattle.engine.proofs.Hour.open.Statement.{statement}
 use Rattle.engine.proofs.Hour.open.Tie as tie
 
@@ -28,10 +29,15 @@ entered-requires c κs = search needs
 fresh-requires : tie.Need-fresh-requires
 fresh-requires c κs = search needs
 
+fresh-quarter-requires : tie.Need-fresh-quarter-requires
+fresh-quarter-requires c κs = search needs
+
 returns : tie.Need-returns
+unfolding openedRealTime
 returns c =
-    let e = c .before .before .before .entered in
-    (e .ensures .0, rw (c .fresh .ensures) (entered (c .before .before .before .before .args .o) (e .result .market) (e .result .rows) (e .ensures .1 .0) (e .ensures .1 .1)))
+    let e = c .before .before .before .before .entered in
+    let h = entered (c .before .before .before .before .before .args .o) (e .result .market) (e .result .rows) (e .ensures .1 .0) (e .ensures .1 .1) in
+    (e .ensures .0, rw (c .before .fresh .ensures, c .fresh-quarter .ensures) (ap (λ (x : Hour). record { hour = x; quarter = freshQuarter }) h))
 
 pub open-spec : {M : Type 1} → statement M
-open-spec = tie.close (tie.spec entered-requires fresh-requires returns)
+open-spec = tie.close (tie.spec entered-requires fresh-requires fresh-quarter-requires returns)

@@ -1,59 +1,60 @@
--- `cutting::cut` meets its contract. Assumes nothing.
+-- `cutting::cut_each` meets its contract. Assumes nothing.
 use borrow.Author.Needs.{needs}
-use mathlib.Core.Path.{_≡_, refl, ap, _∙_}
+use mathlib.Core.Path.{_≡_, refl, _∙_}
 use Prim.Native.Nat.{_-_, _≤_, _<_}
 use native.Mathlib.Omega.{arith}
 use mir.Syntax.{w64}
 use mir.Val.{toZ}
-use lib.ListN.{length, length-map}
+use lib.ListN.{length}
 use Rattle.rules_number.specs.Over.{upTo}
 use Rattle.rules_number.proofs.Kit.{came}
 use Rattle.rules_number.proofs.RangeLaws.{abs-range, abs-in}
 use Rattle.rules_interval.specs.Intervals.{cell}
-use Rattle.cutting.specs.Weights.{weightsOf, weighed, Weighable, cutFloors, cutStanding}
+use Rattle.cutting.specs.Weights.{weightsOf, weighed, Weighable, weighedFloors}
 use Rattle.cutting.proofs.LimitLaws.{weighable, weighed-size}
 use Rattle.cutting.proofs.FloorLaws.{cut-turn}
-use Rattle.cutting.proofs.cut.Statement.{statement}
-use Rattle.cutting.proofs.cut.Tie as tie
+use Rattle.cutting.proofs.cut_each.Statement.{statement}
+use Rattle.cutting.proofs.cut_each.Tie as tie
 
 abbrev Inv-loop : tie.InvT-loop
-Inv-loop self constraints shadow resources lmp dispatch factors parameter weights floors₀ r₀ floors r = (r ≤ resources) × (floors ≡ cutFloors lmp dispatch factors (toZ w64 parameter) weights constraints r floors₀)
+Inv-loop constraints shadow resources lmp dispatch factors parameter weights left₀ r₀ left r = (r ≤ resources) × (left ≡ weighedFloors lmp dispatch factors (toZ w64 parameter) weights constraints r left₀)
 
 abbrev μ-loop : tie.MeasureT-loop
-μ-loop self constraints shadow resources lmp dispatch factors parameter weights floors₀ r₀ floors r = resources - r
+μ-loop constraints shadow resources lmp dispatch factors parameter weights left₀ r₀ left r = resources - r
 
 -- what the types say: the arrays have their lengths
-floors-length : (c : tie.Start Inv-loop μ-loop) → length (c .args .standing .floors) ≡ 64
-floors-length c = simp length-map at (c .good .0 .1 .1 .1 .0 .1 .0 .1)
+floors-length : (c : tie.Start Inv-loop μ-loop) → length (c .args .floors) ≡ 64
+floors-length c = c .good .0 .1 .0 .1
 
-factors-length : (c : tie.After-component-of-arg Inv-loop μ-loop) → length (c .before .before .before .before .before .before .before .args .factors .now) ≡ 2048
+factors-length : (c : tie.After-component-of-arg Inv-loop μ-loop) → length (c .before .before .before .before .before .before .args .factors .now) ≡ 2048
 factors-length c = search needs
 
 few : (l : tie.In-loop Inv-loop μ-loop) → l .before .loop .r < 64
-few l = omega (arith, l .before .before .before .before .before .pre .1 .few)
+few l = omega (arith, l .before .before .before .before .pre .few)
 
 -- the weights, and what they and the factors allow
-weights-are : (l : tie.At-loop Inv-loop μ-loop) → l .before .before .weights-of .result ≡ weightsOf (l .before .before .before .before .args .shadow .now) (l .before .before .before .before .args .verdicts) (l .before .before .before .before .args .constraints)
-weights-are l = l .before .before .weights-of .ensures
+weights-are : (l : tie.At-loop Inv-loop μ-loop) → l .before .weights-of .result ≡ weightsOf (l .before .before .before .args .shadow .now) (l .before .before .before .args .verdicts) (l .before .before .before .args .constraints)
+weights-are l = l .before .weights-of .ensures
 
-weighs : (c : tie.After-component-of-arg Inv-loop μ-loop) → Weighable (c .before .before .before .before .before .before .before .args .factors .now) (c .before .before .before .before .before .weights-of .result) (c .before .before .before .loop .r) (c .before .before .before .before .before .before .before .args .constraints)
+weighs : (c : tie.After-component-of-arg Inv-loop μ-loop)
+    → Weighable (c .before .before .before .before .before .before .args .factors .now) (c .before .before .before .before .weights-of .result) (c .before .before .before .loop .r) (c .before .before .before .before .before .before .args .constraints)
 weighs c =
     let l = c .before .before in
-    let s = l .before .before .before .before .before in
+    let s = l .before .before .before .before in
     let a = s .args in
     rw (weights-are (l .before))
-    (weighable (a .constraints) (a .shadow .now) (a .resources) (a .lmp .now) (a .factors .now) (a .parameter) (s .pre .1) (a .verdicts) (factors-length c) (l .before .loop .r) (l .loop-test .taken))
+    (weighable (a .constraints) (a .shadow .now) (a .resources) (a .lmp .now) (a .factors .now) (a .parameter) (s .pre) (a .verdicts) (factors-length c) (l .before .loop .r) (l .loop-test .taken))
 
 -- the component of a resource, at the numbers themselves
 component-is : (c : tie.After-component-of Inv-loop μ-loop)
-    → c .component-of .result ≡ weighed (c .before .before .before .before .before .before .before .before .before .args .factors .now) (c .before .before .before .before .before .before .before .weights-of .result) (c .before .before .before .before .before .loop .r) (c .before .before .before .before .before .before .before .before .before .args .constraints)
+    → c .component-of .result ≡ weighed (c .before .before .before .before .before .before .before .before .args .factors .now) (c .before .before .before .before .before .before .weights-of .result) (c .before .before .before .before .before .loop .r) (c .before .before .before .before .before .before .before .before .args .constraints)
 component-is c = c .component-of .ensures
 
 weights-of-requires : tie.Need-weights-of-requires Inv-loop μ-loop
-weights-of-requires c κs = (search needs, c .before .pre .1 .constraints)
+weights-of-requires c κs = (search needs, c .before .pre .constraints)
 
 loop-holds : tie.Need-loop-holds Inv-loop μ-loop
-unfolding cutFloors upTo
+unfolding weighedFloors upTo
 loop-holds c = (omega arith, refl)
 
 mul-floor : tie.Need-mul-floor Inv-loop μ-loop
@@ -84,8 +85,8 @@ cut-by-requires : tie.Need-cut-by-requires Inv-loop μ-loop
 cut-by-requires c κs =
     let d = c .before .before in
     let l = d .before .before .before .before in
-    let s = l .before .before .before .before .before in
-    let i = s .pre .1 in
+    let s = l .before .before .before .before in
+    let i = s .pre in
     let r = l .before .loop .r in
     let fl = came (cell (s .args .lmp .now) r) (c .cut-by-arg2 .given) in
     let fc = came (d .component-of .result) (d .component-of .ok) in
@@ -97,11 +98,11 @@ cut-by-requires c κs =
 cut-floor-requires : tie.Need-cut-floor-requires Inv-loop μ-loop
 cut-floor-requires c κs = search needs
 
-mul-floors : tie.Need-mul-floors Inv-loop μ-loop
-mul-floors c = omega (arith, few (c .before .before .before .before .before .before .before .before))
+mul-left : tie.Need-mul-left Inv-loop μ-loop
+mul-left c = omega (arith, few (c .before .before .before .before .before .before .before .before))
 
-array-set-from-floors : tie.Need-array-set-from-floors Inv-loop μ-loop
-array-set-from-floors c = omega (arith, few (c .before .before .before .before .before .before .before .before))
+array-set-from-left : tie.Need-array-set-from-left Inv-loop μ-loop
+array-set-from-left c = omega (arith, few (c .before .before .before .before .before .before .before .before))
 
 add-r : tie.Need-add-r Inv-loop μ-loop
 add-r c = omega (arith, few (c .before .before .before .before .before .before .before .before))
@@ -113,32 +114,27 @@ loop-again : tie.Need-loop-again Inv-loop μ-loop
 loop-again c =
     let d = c .before .before .before .before in
     let l = d .before .before .before .before in
-    let s = l .before .before .before .before .before in
+    let s = l .before .before .before .before in
     let a = s .args in
     let r = l .before .loop .r in
-    let h : r < length (a .standing .floors) = omega (arith, floors-length s, few l) in
+    let h : r < length (a .floors) = omega (arith, floors-length s, few l) in
     let fd = came (cell (a .dispatch .now) r) (c .before .before .before .cut-by-arg .given) in
     let fl = came (cell (a .lmp .now) r) (c .before .before .cut-by-arg2 .given) in
     let fc = came (d .component-of .result) (d .component-of .ok) in
     let fp = came (a .parameter) (s .fits .parameter .sfits) in
     let k = rw (component-is d) at (simp (fd, fl, fc, fp) at (c .before .cut-by .ensures)) in
-    (omega arith, rw fp (cut-turn (a .lmp .now) (a .dispatch .now) (a .factors .now) (a .parameter) (l .before .before .before .weights-of .result) (a .constraints) (a .standing .floors) r (l .before .loop .floors) (c .before .cut-by .result) (c .cut-floor .result) h (rw fp at (l .before .loop .inv .1)) k (c .cut-floor .ensures)))
-
-add-t38 : tie.Need-add-t38 Inv-loop μ-loop
-add-t38 c = omega (arith, c .before .before .before .before .before .before .pre .0)
+    (omega arith, rw fp (cut-turn (a .lmp .now) (a .dispatch .now) (a .factors .now) (a .parameter) (l .before .before .weights-of .result) (a .constraints) (a .floors) r (l .before .loop .left) (c .before .cut-by .result) (c .cut-floor .result) h (rw fp at (l .before .loop .inv .1)) k (c .cut-floor .ensures)))
 
 returns : tie.Need-returns Inv-loop μ-loop
 returns c =
-    let l = c .before .before in
-    let s = l .before .before .before .before in
-    let e : l .loop .r ≡ s .args .resources = omega (arith, c .before .loop-test .left, l .loop .inv .0) in
+    let l = c .before in
+    let s = l .before .before .before in
+    let e : l .loop .r ≡ s .args .resources = omega (arith, c .loop-test .left, l .loop .inv .0) in
     let a = s .args in
-    let floors : l .loop .floors ≡ cutFloors (a .lmp .now) (a .dispatch .now) (a .factors .now) (a .parameter) (weightsOf (a .shadow .now) (a .verdicts) (a .constraints)) (a .constraints) (a .resources) (a .standing .floors)
-    = rw (came (a .parameter) (s .fits .parameter .sfits)) at (l .loop .inv .1) ∙ rw (e, weights-are l) in
-    ap (cutStanding (a .standing)) floors
+    rw (came (a .parameter) (s .fits .parameter .sfits)) at (l .loop .inv .1) ∙ rw (e, weights-are l)
 
-pub cut-spec : {M : Type 1} → statement M
-cut-spec =
+pub cut-each-spec : {M : Type 1} → statement M
+cut-each-spec =
     tie.close
     (tie.spec
     Inv-loop
@@ -155,10 +151,9 @@ cut-spec =
     element-copy-out-cut-by-2
     cut-by-requires
     cut-floor-requires
-    mul-floors
-    array-set-from-floors
+    mul-left
+    array-set-from-left
     add-r
     loop-less
     loop-again
-    add-t38
     returns)
