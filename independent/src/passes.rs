@@ -1,4 +1,4 @@
-//! Five-minute passes (request 2.1).
+//! Five-minute passes (request 2.1) and one bid for the hour (request 2.2).
 
 use crate::curve::{merged, Curve, Step};
 use crate::hour::{cut, Hour, Interval};
@@ -12,6 +12,8 @@ pub struct RealTime {
     /// Accepted since the last accepted interval.
     pub passes: usize,
     pub curves: Vec<Curve>,
+    /// The hour's curves right after each accepted interval.
+    pub after_interval: Vec<Vec<Curve>>,
 }
 
 impl RealTime {
@@ -21,6 +23,7 @@ impl RealTime {
             hour,
             passes: 0,
             curves,
+            after_interval: Vec::new(),
         }
     }
 
@@ -30,7 +33,37 @@ impl RealTime {
         let verdicts = self.hour.take(interval)?;
         self.passes = 0;
         self.curves = self.hour.curves();
+        self.after_interval.push(self.curves.clone());
         Ok(verdicts)
+    }
+
+    /// "at each quantity, the lowest of the four intervals' curves (34.1.5.3), neighbours with one
+    /// price merged" (request 2.2)
+    pub fn hour_bid(&self, resource: usize) -> Result<Curve, Refusal> {
+        // 20: "fewer than four intervals accepted, the only check"
+        if self.after_interval.len() < 4 {
+            return Err(20);
+        }
+        let curves: Vec<&Curve> = self
+            .after_interval
+            .iter()
+            .map(|curves| &curves[resource])
+            .collect();
+        let mut edges: Vec<i128> = curves.iter().flat_map(|curve| curve.edges()).collect();
+        edges.sort();
+        edges.dedup();
+        let lowest = |quantity: i128| {
+            let prices = curves.iter().map(|curve| curve.price(quantity).unwrap());
+            prices.min().unwrap()
+        };
+        let step = |pair: &[i128]| Step {
+            end: pair[1],
+            price: lowest(pair[0]),
+        };
+        Ok(merged(&Curve {
+            start: curves[0].start,
+            steps: edges.windows(2).map(step).collect(),
+        }))
     }
 
     /// "each later one from the pass before. Passes never alter the hour's curves"
@@ -148,5 +181,20 @@ mod tests {
         assert_eq!(hour.interval(&call(600_000, 0, 100)), Err(12));
         assert!(hour.pass(&call(650_000, 20_000, 100)).is_ok());
         assert_eq!(prices(&hour), (vec![500_000], vec![400_100]));
+    }
+
+    #[test]
+    fn the_hour_bid_is_the_lowest_of_four() {
+        let mut hour = hour();
+        for lmp in [749_900, 650_000, 700_000] {
+            assert!(hour.interval(&call(lmp, 20_000, 100)).is_ok());
+            assert_eq!(hour.hour_bid(0), Err(20));
+        }
+        assert_eq!(hour.interval(&call(749_900, 20_000, 101)), Err(15));
+        assert_eq!(hour.hour_bid(0), Err(20));
+        assert!(hour.interval(&call(749_900, 20_000, 100)).is_ok());
+        assert_eq!(hour.hour_bid(0).unwrap().prices(), [400_100]);
+        assert!(hour.pass(&call(600_000, 20_000, 100)).is_ok());
+        assert_eq!(hour.hour_bid(0).unwrap().prices(), [400_100]);
     }
 }

@@ -63,6 +63,7 @@ pub(crate) fn reason(number: u8) -> &'static str {
         17 => "the line is not of the form that is due there",
         18 => "the text has more than 65,536 bytes",
         19 => "no interval is accepted yet, or three passes are accepted since the last",
+        20 => "fewer than four intervals are accepted",
         _ => "no such refusal is known",
     }
 }
@@ -74,9 +75,9 @@ mod tests {
 
     #[test]
     fn every_number_has_a_sentence_of_its_own() {
-        let sentences: BTreeSet<&str> = (0..=19).map(reason).collect();
-        assert_eq!(sentences.len(), 20);
-        assert_eq!(reason(0), reason(20));
+        let sentences: BTreeSet<&str> = (0..=20).map(reason).collect();
+        assert_eq!(sentences.len(), 21);
+        assert_eq!(reason(0), reason(21));
     }
 
     #[test]

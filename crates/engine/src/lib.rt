@@ -1,13 +1,16 @@
-// Opening an hour, taking its intervals and their passes (paper 01, Interval and hour; 31.2.3, 34.1.5; Refused, by place: 9 to 16; paper 02, 2.1: 19).
-// The contracts cite the definitions of rules_hour and rules_pass; specs/Hours says which hour the struct stands for.
+// Opening an hour, taking its intervals and their passes, and its bids (paper 01, Interval and hour; 31.2.3, 34.1.5; Refused, by place: 9 to 16; paper 02, 2.1 and 2.2:
+// 19 and 20). The contracts cite the definitions of rules_hour, rules_pass and rules_hour_bid; specs/Hours says which hour the struct stands for.
 ghost use mathlib.Core.Path.{_≡_};
 ghost use Rattle.rules_curve.specs.Refusals.{outcomeNumber};
 ghost use Rattle.rules_opening.specs.Openings.{openingRefusal};
 ghost use Rattle.rules_hour.specs.Hours.{curveIn, hourRefusal, hourVerdicts};
 ghost use Rattle.rules_pass.specs.Passes.{blankRealTime, openedRealTime, intervalAfter, passRefusal, passAfter, passVerdicts, fiveMinuteIn};
+ghost use Rattle.rules_hour_bid.specs.HourBids.{hourBidRefusal, hourBidOf};
 ghost use Rattle.engine.specs.Hours.{asHour, asRealTime};
 use rules_curve::Outcome;
+use rules_curve::Refusal;
 use rules_hour::Standing;
+use rules_hour_bid::HourBid;
 use rules_interval::Interval;
 use rules_mitigation::Mitigated;
 use rules_opening::Opening;
@@ -92,7 +95,7 @@ impl Hour {
             let floor = standing.floors[r];
             standing::row_curve(row, floor)
         } else {
-            standing::no_curve()
+            standing::blank_curve()
         }
     }
 
@@ -101,7 +104,7 @@ impl Hour {
         ensures { λ x. ⌜ x ≡ fiveMinuteIn (asRealTime self) r ⌝ }
     {
         if Hour::MAX_RESOURCES <= r {
-            return standing::no_curve();
+            return standing::blank_curve();
         }
         let standing = self.standing;
         let quarter = self.quarter;
@@ -110,6 +113,24 @@ impl Hour {
         let lowest = quarter.floors[r];
         let price = lowest.price;
         standing::row_curve(row, standing::cut_floor(floor, price))
+    }
+
+    // The bid of resource r for the hour, or 20 where fewer than four intervals are accepted: a blank one where the hour has no such resource.
+    pub fn hour_bid(self, r: usize) -> HourBid
+        ensures number { λ x. ⌜ outcomeNumber (x .outcome) ≡ hourBidRefusal (asRealTime self) ⌝ }
+        ensures curve { λ x. ⌜ x .curve ≡ hourBidOf (asRealTime self) r ⌝ }
+    {
+        let standing = self.standing;
+        if standing.accepted < Hour::MAX_INTERVALS {
+            return HourBid {
+                outcome: Outcome::Refused(Refusal::HourOpen),
+                curve: standing::blank_curve(),
+            };
+        }
+        HourBid {
+            outcome: Outcome::Accepted,
+            curve: self.curve(r),
+        }
     }
 
     // The next hour and the verdicts, or the lowest of refusals 12 to 16 that applies and the hour as it was. An accepted interval begins a quarter hour.

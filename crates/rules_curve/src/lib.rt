@@ -53,6 +53,7 @@ pub enum Refusal {
     Form,
     Length,
     PassTurn,
+    HourOpen,
 }
 
 pub enum Outcome {

@@ -7,7 +7,7 @@ use native.Mathlib.Nat.{le-trans}
 use lib.IntN.{ℤ}
 use Rattle.rules_number.specs.Least.{least}
 use Rattle.rules_number.proofs.LeastLaws.{least-is-least, least-only}
-use Rattle.rules_curve.specs.Curves.{stepsOf, endOf}
+use Rattle.rules_curve.specs.Curves.{stepsOf, endOf, priceAt}
 use Rattle.rules_curve.specs.Meaning.{Rising}
 use Rattle.rules_curve.specs.declared.Step.{Step}
 use Rattle.rules_curve.proofs.QuoteLaws.{quote-inside, quote-before, quote-past}
@@ -20,26 +20,26 @@ use Rattle.rules_interval.specs.declared.Interval.{Interval}
 use Rattle.rules_opening.specs.Openings.{marketOf, openingRefusal}
 use Rattle.rules_opening.specs.declared.Opening.{Opening}
 use Rattle.rules_hour.specs.Cuts.{component}
-use Rattle.rules_hour.specs.Demand3.{submitted, defaultOf, submittedPrice, defaultPrice, InBid, InDefault, Quoted, capsOf, CappedSteps, Capped, Owned}
+use Rattle.rules_hour.specs.Demand3.{submitted, defaultOf, submittedPrice, defaultPrice, InBid, InDefault, Quoted, capsOf, OverBid, CappedSteps, Capped, Owned}
 use Rattle.rules_hour.proofs.AcceptedOpening.{default-sound, bid-inside}
 use Rattle.rules_hour.proofs.Caps.{caps-one-each, capping-exactly, components, caps-number}
 use Rattle.rules_hour.proofs.CurveShape.{Shape}
 
 -- such steps rise from where the submitted bid starts to where it ends
-module _ {o : Opening} {r : ℕ} {before : ℕ → ℤ} {calls : List Interval} {p : ℕ} {l : List Step} (d : CappedSteps o r before calls p l) where
+module _ {o : Opening} {r : ℕ} {Is : ℕ → ℤ → Type 0} {p : ℕ} {l : List Step} (d : OverBid o r Is p l) where
   steps-rise : Rising (submitted o r .start) l
   steps-rise = subst (λ (x : ℕ). Rising x l) (d .starts) (d .rising)
 
   steps-end : endOf (submitted o r .start) l ≡ endOf (submitted o r .start) (stepsOf (submitted o r))
   steps-end = ap (λ (x : ℕ). endOf x l) (sym (d .starts)) ∙ d .ends
 
--- there is one such curve
-steps-only : {o : Opening} {r : ℕ} {before : ℕ → ℤ} {calls : List Interval} {p k : ℕ} {l m : List Step}
-    → CappedSteps o r before calls p l → CappedSteps o r before calls k m → (p ≡ k) × (l ≡ m)
-steps-only {o} {r} {l = l} {m = m} a b = (
+-- where each hundredth has one price, there is one such curve
+pub steps-only : {o : Opening} {r : ℕ} {Is : ℕ → ℤ → Type 0} {p k : ℕ} {l m : List Step} → ((q : ℕ) (x y : ℤ) → Is q x → Is q y → x ≡ y)
+    → OverBid o r Is p l → OverBid o r Is k m → (p ≡ k) × (l ≡ m)
+steps-only {o} {r} {l = l} {m = m} one a b = (
   a .starts ∙ sym (b .starts),
   only-curve (submitted o r .start) l m (steps-rise a) (steps-rise b) (a .apart) (b .apart) (steps-end a ∙ sym (steps-end b))
-      (λ q h e. let i : InBid o r q = record { from-start = h; below-end = subst (λ (x : ℕ). q < x) (steps-end a) e } in least-only (a .price q i) (b .price q i)),
+      (λ q h e. let i : InBid o r q = record { from-start = h; below-end = subst (λ (x : ℕ). q < x) (steps-end a) e } in one q (priceAt l q) (priceAt m q) (a .price q i) (b .price q i)),
 )
 
 module _ (o : Opening) (accepted : openingRefusal o ≡ 0) (r : ℕ) (l : r < o .resources) where
@@ -72,7 +72,7 @@ module _ (o : Opening) (accepted : openingRefusal o ≡ 0) (r : ℕ) (l : r < o 
         } in
         record {
           is = steps;
-          only = λ p m h. steps-only h steps;
+          only = λ p m h. steps-only (λ q x y. least-only) h steps;
           nineteen = s .nineteen;
           capping = λ q i. capping-exactly o accepted calls sound r q (priced q i .default);
           one-each = λ q i. caps-one-each o accepted calls sound r q (priced q i .default);

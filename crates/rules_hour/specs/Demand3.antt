@@ -231,16 +231,19 @@ hourOf o calls = hourAfterAll (openedHour o) calls
 abbrev pub curveAfter : Opening → List Interval → ℕ → Mitigated
 curveAfter o calls r = curveIn (hourOf o calls) r
 
--- the steps l, from p on, are the bid of resource r with each hundredth of a megawatt at the least of its price before, `before q`, and its caps in these accepted
--- calls
-pub record CappedSteps (o : Opening) (r : ℕ) (before : ℕ → ℤ) (accepted : List Interval) (p : ℕ) (l : List Step) : Type 0 where
-  pub price : (q : ℕ) → InBid o r q → IsLeast (before q) (capsOf o accepted r q) (priceAt l q)
+-- the steps l, from p on, are the bid of resource r with each hundredth q of a megawatt at a price x that Is q x
+pub record OverBid (o : Opening) (r : ℕ) (Is : ℕ → ℤ → Type 0) (p : ℕ) (l : List Step) : Type 0 where
+  pub price : (q : ℕ) → InBid o r q → Is q (priceAt l q)
   -- "this curve starts and ends where its submitted bid does"
   pub starts : p ≡ submitted o r .start
   pub ends : endOf p l ≡ endOf (submitted o r .start) (stepsOf (submitted o r))
   -- "Neighbouring steps with one price are merged"
   pub rising : Rising p l
   pub apart : Apart l
+
+-- at the least of its price before, `before q`, and its caps in these accepted calls
+abbrev pub CappedSteps : Opening → ℕ → (ℕ → ℤ) → List Interval → ℕ → List Step → Type 0
+CappedSteps o r before accepted p l = OverBid o r (λ q x. IsLeast (before q) (capsOf o accepted r q) x) p l
 
 -- c is that curve and no other is; each accepted call has its cap in the user's words
 pub record Capped (o : Opening) (r : ℕ) (before : ℕ → ℤ) (accepted : List Interval) (c : Mitigated) : Type 0 where

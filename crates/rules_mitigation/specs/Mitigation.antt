@@ -62,6 +62,10 @@ mitigatedSteps floor bid default = joined (segments (capped floor) (bid .start) 
 abbrev pub mitigatedOf : ℕ → List Step → Mitigated
 mitigatedOf s l = record { start = s; count = length l; steps = padded 19 blankStep l }
 
+-- the curve with no step
+abbrev pub blankMitigated : Mitigated
+blankMitigated = mitigatedOf 0 []
+
 unfoldable pub mitigated : FloorPrice → Curve → Curve → Mitigated
 mitigated floor bid default = mitigatedOf (bid .start) (mitigatedSteps floor bid default)
 

@@ -139,7 +139,7 @@ pub pass-count : (h : RealTimeHour) (v : Interval) → passAfter h v .hour .stan
 unfolding passAfter
 pass-count h v = refl
 
-counts : (h : RealTimeHour) (v : Interval) → hourRefusal (h .hour) v ≡ 0 → intervalAfter h v .hour .standing .accepted ≡ h .hour .standing .accepted + 1
+pub counts : (h : RealTimeHour) (v : Interval) → hourRefusal (h .hour) v ≡ 0 → intervalAfter h v .hour .standing .accepted ≡ h .hour .standing .accepted + 1
 unfolding intervalAfter
 counts h v e = count-after (h .hour) v ∙ ap (λ (n : ℕ). countedBy n (h .hour .standing .accepted)) e
 

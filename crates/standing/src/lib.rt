@@ -2,9 +2,11 @@
 // paper 02, 2.1). The contracts cite the definitions of rules_hour and rules_pass.
 ghost use mathlib.Core.Path.{_≡_};
 ghost use Rattle.rules_curve.specs.Refusals.{outcomeNumber};
-ghost use Rattle.rules_hour.specs.Hours.{freshStanding, uncut, noRow, cutFloor, rowCurve};
+ghost use Rattle.rules_hour.specs.Hours.{freshStanding, cutFloor, rowCurve};
+ghost use Rattle.rules_mitigation.specs.Mitigation.{blankMitigated};
 ghost use Rattle.rules_pass.specs.Passes.{freshQuarter, begunBy};
 use rules_curve::Outcome;
+use rules_curve::Step;
 use rules_hour::Floor;
 use rules_hour::Standing;
 use rules_interval::Interval;
@@ -57,11 +59,15 @@ pub fn row_curve(row: Row, floor: Floor) -> Mitigated
     mitigation::mitigated_curve(bid, default, price)
 }
 
-// The curve of a resource that an hour doesn't have.
-pub fn no_curve() -> Mitigated
-    ensures { λ x. ⌜ x ≡ rowCurve noRow uncut ⌝ }
+// The curve with no step: that of a resource that an hour doesn't have, and of a refused hour bid.
+pub fn blank_curve() -> Mitigated
+    ensures { λ x. ⌜ x ≡ blankMitigated ⌝ }
 {
-    mitigation::mitigated_curve(curve::blank(), curve::blank(), FloorPrice::Uncut)
+    Mitigated {
+        start: 0,
+        count: 0,
+        steps: [Step { end: 0, price: 0 }; Mitigated::MAX_STEPS],
+    }
 }
 
 // The quarter hour after an interval with this outcome: a fresh one where it is accepted.

@@ -13,5 +13,6 @@ pub mod Parts
 pub mod Demand3
 pub mod Hours
 pub mod Passes
+pub mod HourBids
 pub mod Runs
 pub mod Programs

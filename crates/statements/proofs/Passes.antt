@@ -151,7 +151,7 @@ passes-with p (pass v ∷ calls) (zero ∷ l) = passes-with (returned 0 p (pass 
 passes-with p (pass v ∷ calls) (suc n ∷ l) = passes-with p calls l
 
 module _ (o : Opening) (opened : openingRefusal o ≡ 0) (calls : List Request) where
-  intervals-are : acceptedIntervals o calls ≡ Intervals o calls
+  pub intervals-are : acceptedIntervals o calls ≡ Intervals o calls
   intervals-are = demand-3 o calls 0 opened (few o opened .1) .accepting ∙ intervals-with noneYet calls (answers o calls) ∙ ap (intervalsWith [] calls) (numbers-are (openedRealTime o) calls)
 
   passes-are : acceptedPasses o calls ≡ Passes o calls

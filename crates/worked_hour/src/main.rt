@@ -1,5 +1,5 @@
 // Runs hours through the public calls and prints each answer: packs for no resource, for all and for one; a refused opening; of the third hour, a
-// refused call in the middle, four accepted calls and a fifth; and an hour with five-minute passes. The resources are those of paper 01's Case T and P9.
+// refused call in the middle, four accepted calls and a fifth, and the bids for the hour before the fourth and after it; and an hour with five-minute passes. The resources are those of paper 01's Case T and P9.
 use engine::Answer;
 use engine::Hour;
 use libc::STDOUT_FILENO;
@@ -189,6 +189,16 @@ fn interval(shadow: i64, lmp: i64, parameter: i64) -> Interval {
     }
 }
 
+// The bids for the hour, and their answer.
+fn print_bids(hour: Hour) {
+    let first = hour.hour_bid(0);
+    let second = hour.hour_bid(1);
+    let outcome = first.outcome;
+    print_outcome(b"hour bid ", outcome);
+    print_curve(b"bid ", 0, first.curve);
+    print_curve(b"bid ", 1, second.curve);
+}
+
 // An answer printed; the hour that it hands back.
 fn answered(label: &[u8], answer: Answer) -> Hour {
     let verdicts = answer.verdicts;
@@ -243,7 +253,7 @@ fn passes() {
     let hour = call(hour, interval(0, 600_000, 100));
     let hour = call(hour, interval(0, 600_000, 100));
     let hour = pass(hour, interval(500_000, 650_000, 100));
-    quarter(hour, interval(500_000, 600_000, 100));
+    print_bids(quarter(hour, interval(500_000, 600_000, 100)));
 }
 
 fn main() {
@@ -261,8 +271,10 @@ fn main() {
     let hour = call(hour, interval(500_000, 600_000, 101));
     let hour = call(hour, interval(500_000, 600_000, 100));
     let hour = call(hour, interval(500_000, 749_900, 100));
+    print_bids(hour);
     let hour = call(hour, interval(0, 600_000, 100));
-    call(hour, interval(500_000, 600_000, 100));
+    let hour = call(hour, interval(500_000, 600_000, 100));
+    print_bids(hour);
     io::write_all(STDOUT_FILENO, b"passes\n");
     passes();
 }

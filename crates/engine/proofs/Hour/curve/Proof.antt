@@ -5,6 +5,7 @@ use Prim.Native.Nat.{_≤_}
 use native.Mathlib.Omega.{arith}
 use lib.ListN.{length, length-map, List·getD-eq-default}
 use Rattle.rules_hour.specs.Hours.{uncut, noRow, rowCurve, curveIn}
+use Rattle.rules_hour.proofs.CurveShape.{no-row}
 use Rattle.engine.proofs.Hour.curve.Statement.{statement}
 use Rattle.engine.proofs.Hour.curve.Tie as tie
 
@@ -30,8 +31,8 @@ element-copy-out-floor c = search needs
 row-curve-requires : tie.Need-row-curve-requires
 row-curve-requires c κs = search needs
 
-no-curve-requires : tie.Need-no-curve-requires
-no-curve-requires c κs = search needs
+blank-curve-requires : tie.Need-blank-curve-requires
+blank-curve-requires c κs = search needs
 
 returns : tie.Need-returns
 unfolding curveIn
@@ -44,7 +45,7 @@ returns-2 c =
     let a = s .args .t1 in
     let past : length (a .rows) ≤ s .args .r = omega (arith, rows-length s) in
     let behind : length (a .standing .floors) ≤ s .args .r = omega (arith, floors-length s) in
-    c .no-curve .ensures ∙ ap₂ rowCurve (sym (List·getD-eq-default (a .rows) noRow past)) (sym (List·getD-eq-default (a .standing .floors) uncut behind))
+    c .blank-curve .ensures ∙ sym no-row ∙ ap₂ rowCurve (sym (List·getD-eq-default (a .rows) noRow past)) (sym (List·getD-eq-default (a .standing .floors) uncut behind))
 
 pub curve-spec : {M : Type 1} → statement M
 curve-spec =
@@ -55,6 +56,6 @@ curve-spec =
     mul-floor
     element-copy-out-floor
     row-curve-requires
-    no-curve-requires
+    blank-curve-requires
     returns
     returns-2)

@@ -7,6 +7,7 @@ use lib.ListN.{length, length-map, getD, List·getD-eq-default}
 use Rattle.rules_hour.specs.Hours.{uncut, noRow, rowCurve, cutFloor}
 use Rattle.rules_hour.specs.declared.Floor.{Floor}
 use Rattle.rules_pass.specs.Passes.{fiveMinuteIn}
+use Rattle.rules_hour.proofs.CurveShape.{no-row}
 use Rattle.engine.proofs.Hour.five_minute.Statement.{statement}
 use Rattle.engine.proofs.Hour.five_minute.Tie as tie
 
@@ -44,8 +45,8 @@ cut-floor-requires c κs = search needs
 row-curve-requires : tie.Need-row-curve-requires
 row-curve-requires c κs = search needs
 
-no-curve-requires : tie.Need-no-curve-requires
-no-curve-requires c κs = search needs
+blank-curve-requires : tie.Need-blank-curve-requires
+blank-curve-requires c κs = search needs
 
 returns-2 : tie.Need-returns-2
 unfolding fiveMinuteIn
@@ -62,13 +63,13 @@ returns c =
     let row : noRow ≡ getD (a .rows) (s .args .r) noRow = sym (List·getD-eq-default (a .rows) noRow past) in
     let floor : uncut ≡ getD (a .standing .floors) (s .args .r) uncut = sym (List·getD-eq-default (a .standing .floors) uncut behind) in
     let lowest : uncut ≡ getD (a .quarter .floors) (s .args .r) uncut = sym (List·getD-eq-default (a .quarter .floors) uncut later) in
-    c .no-curve .ensures ∙ ap₂ rowCurve row (ap₂ (λ (x y : Floor). cutFloor (x .price) y) lowest floor)
+    c .blank-curve .ensures ∙ sym no-row ∙ ap₂ rowCurve row (ap₂ (λ (x y : Floor). cutFloor (x .price) y) lowest floor)
 
 pub five-minute-spec : {M : Type 1} → statement M
 five-minute-spec =
     tie.close
     (tie.spec
-    no-curve-requires
+    blank-curve-requires
     returns
     mul-row
     element-copy-out-row

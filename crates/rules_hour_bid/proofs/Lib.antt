@@ -1,0 +1,3 @@
+-- What the definitions mean, their laws, and worked cases.
+pub mod WorkedBids
+pub mod HourBidIs

@@ -1,0 +1,3 @@
+-- Definitions, in the request's order. What they mean stands in proofs/.
+pub mod HourBids
+pub mod Meaning
