@@ -54,6 +54,9 @@ size_t noskjerf_room(void);
  * other answer. The count is 0 for a text that opens an hour and has no interval: there is nothing to print. The bytes of the page past
  * the count stay as they were.
  *
+ * One text always prints the same bytes: constraints and resources rise, and within a constraint the seller with the larger withheld
+ * amount comes first, equal ones by lower portfolio number.
+ *
  * Answers -1 where page_len is below noskjerf_room(); the page is then untouched. No terminating zero is read or written.
  */
 int64_t noskjerf_run(const uint8_t *text, size_t text_len, uint8_t *page, size_t page_len);

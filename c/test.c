@@ -108,6 +108,41 @@ static void test_intervals(void)
                  PAGE_OF_INTERVAL("1") PAGE_OF_INTERVAL("2") PAGE_OF_INTERVAL("3") PAGE_OF_INTERVAL("4") REFUSAL("12 55")));
 }
 
+/* Three net sellers with 5, 7 and 7 to withhold, in two intervals. */
+#define THREE_SELLERS \
+    "month\n25\n" \
+    "portfolio seller\n0 1\n1 1\n2 1\n" \
+    "resource portfolio start\n0 0 0\n1 1 0\n2 2 0\n" \
+    "resource end price\n0 100 0\n1 100 0\n2 100 0\n" \
+    "resource mw heat\n0 0 1\n0 100 1\n1 0 1\n1 100 1\n2 0 1\n2 100 1\n" \
+    "resource gas rate allowance om msc soc fee\n0 0 0 0 0 0 0 0\n1 0 0 0 0 0 0 0\n2 0 0 0 0 0 0 0\n"
+
+#define THEIR_INTERVAL \
+    "constraint shadow\n0 1\n" \
+    "resource lmp dispatch available floor\n0 0 0 5 0\n1 0 0 7 0\n2 0 0 7 0\n" \
+    "resource constraint factor\n0 0 -1\n1 0 -1\n2 0 -1\n" \
+    "parameter\n0\n"
+
+#define PAGE_OF_THEIRS(i) \
+    "interval constraint verdict demand left\n" \
+    i " 0 0 0 0\n" \
+    "interval constraint portfolio withheld\n" \
+    i " 0 1 7\n" \
+    i " 0 2 7\n" \
+    i " 0 0 5\n" \
+    "interval resource end price\n" \
+    i " 0 100 0\n" \
+    i " 1 100 0\n" \
+    i " 2 100 0\n"
+
+/* The larger amount first, equal ones by lower number: in one run and in another, and in the text so far of each interval. */
+static void test_sellers(void)
+{
+    CHECK(prints(THREE_SELLERS THEIR_INTERVAL, PAGE_OF_THEIRS("1")));
+    CHECK(prints(THREE_SELLERS THEIR_INTERVAL THEIR_INTERVAL, PAGE_OF_THEIRS("1") PAGE_OF_THEIRS("2")));
+    CHECK(prints(THREE_SELLERS THEIR_INTERVAL THEIR_INTERVAL, PAGE_OF_THEIRS("1") PAGE_OF_THEIRS("2")));
+}
+
 static void test_form(void)
 {
     CHECK(prints("", REFUSAL("17 1")));
@@ -194,6 +229,7 @@ int main(void)
 {
     test_room();
     test_intervals();
+    test_sellers();
     test_form();
     test_length();
     test_told();

@@ -1,9 +1,9 @@
-//! Runs generated texts through the engine's static library and through the independent implementation, and compares what they print, the
-//! order of one constraint's sellers aside: `compare [TEXTS] [FIRST SEED]`.
+//! Runs generated texts through the engine's static library and through the independent implementation, and compares what they print, byte
+//! for byte: `compare [TEXTS] [FIRST SEED]`.
 //!
 //! A seed gives the same text each time. A text on which the two differ is shrunk and saved in `failures/`, beside both outputs.
 
-use independent::compare::{same, shrink};
+use independent::compare::shrink;
 use independent::generate;
 use std::fs;
 use std::path::PathBuf;
@@ -20,7 +20,7 @@ const STACK: usize = 4 << 20;
 const SAVED: usize = 3;
 
 fn differs(text: &[u8]) -> bool {
-    !same(&noskjerf::print(text), &independent::run(text))
+    noskjerf::print(text) != independent::run(text)
 }
 
 fn argument(index: usize, otherwise: u64) -> u64 {

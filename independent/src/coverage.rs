@@ -2,7 +2,7 @@
 
 use crate::generate;
 use crate::hour::component;
-use crate::print::{answer, Accepted, Answer};
+use crate::print::{answer, by_weight, Accepted, Answer};
 use crate::verdict::{Verdict, COMPETITIVE, NON_COMPETITIVE, NOT_BINDING};
 use std::ops::Range;
 
@@ -26,6 +26,12 @@ pub struct Coverage {
     pub ties: usize,
     /// Those where the tie decides who is named.
     pub deciding_ties: usize,
+    /// Binding constraints with two sellers or more named.
+    pub several_sellers: usize,
+    /// Those whose sellers aren't printed by rising portfolio number.
+    pub sellers_not_rising: usize,
+    /// Those of which two sellers named withhold the same.
+    pub equal_sellers: usize,
     pub most_steps: usize,
     pub curves_of_19_steps: usize,
     pub curves_cut: usize,
@@ -102,7 +108,16 @@ impl Coverage {
             self.one_above += usize::from(verdict.left + 1 == verdict.demand);
             self.ties += usize::from(has_tie(verdict));
             self.deciding_ties += usize::from(has_deciding_tie(verdict));
+            self.count_sellers(verdict);
         }
+    }
+
+    fn count_sellers(&mut self, verdict: &Verdict) {
+        let sellers = by_weight(verdict);
+        let neighbours = |test: fn(&[(usize, i128)]) -> bool| sellers.windows(2).any(test);
+        self.several_sellers += usize::from(sellers.len() > 1);
+        self.sellers_not_rising += usize::from(neighbours(|pair| pair[0].0 > pair[1].0));
+        self.equal_sellers += usize::from(neighbours(|pair| pair[0].1 == pair[1].1));
     }
 
     fn count_components(&mut self, accepted: &Accepted) {
@@ -159,6 +174,8 @@ impl Coverage {
                 self.one_above,
                 self.ties,
                 self.deciding_ties,
+                self.sellers_not_rising,
+                self.equal_sellers,
                 self.curves_cut,
                 self.curves_cut_further,
                 self.prices_at_cap,

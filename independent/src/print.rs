@@ -4,6 +4,7 @@ use crate::curve::Curve;
 use crate::hour::{Hour, Interval};
 use crate::text::{Reader, Refused};
 use crate::verdict::Verdict;
+use std::cmp::Reverse;
 
 pub const VERDICTS: &str = "interval constraint verdict demand left\n";
 pub const SELLERS: &str = "interval constraint portfolio withheld\n";
@@ -96,10 +97,18 @@ fn print_verdicts(out: &mut String, interval: usize, verdicts: &[Verdict]) {
     }
 }
 
+/// "Within a constraint the larger withheld amount now comes first, equal ones by lower portfolio
+/// number." (paper 02, 2.3)
+pub fn by_weight(verdict: &Verdict) -> Vec<(usize, i128)> {
+    let mut sellers = verdict.sellers.clone();
+    sellers.sort_by_key(|&(portfolio, withheld)| (Reverse(withheld), portfolio));
+    sellers
+}
+
 fn print_sellers(out: &mut String, interval: usize, verdicts: &[Verdict]) {
     *out += SELLERS;
     for (constraint, verdict) in verdicts.iter().enumerate() {
-        for (portfolio, withheld) in &verdict.sellers {
+        for (portfolio, withheld) in by_weight(verdict) {
             *out += &format!("{interval} {constraint} {portfolio} {withheld}\n");
         }
     }

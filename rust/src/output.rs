@@ -53,7 +53,8 @@ pub struct Page {
     pub interval: usize,
     /// The verdict on each constraint, in the order of the constraints.
     pub verdicts: Vec<Verdict>,
-    /// The sellers named, at most three for each constraint that binds, in the order of the constraints.
+    /// The sellers named, at most three for each constraint that binds, in the order of the constraints. Within a constraint the larger
+    /// withheld amount comes first, equal ones by lower portfolio number.
     pub sellers: Vec<Seller>,
     /// The bid curve of each resource after this interval, in the order of the resources.
     pub curves: Vec<Curve>,

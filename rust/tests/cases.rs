@@ -97,8 +97,8 @@ fn driven(text: &[u8]) -> (Vec<Page>, Option<Refusal>) {
 }
 
 #[test]
-fn there_are_135_cases() {
-    assert_eq!(cases().len(), 135);
+fn there_are_141_cases() {
+    assert_eq!(cases().len(), 141);
 }
 
 #[test]
@@ -114,6 +114,31 @@ fn what_is_read_from_the_bytes_is_all_of_them() {
         let output = run(&case.text);
         assert_eq!(output.bytes, case.printed, "{}", case.name);
         assert_eq!(printed_again(&output).as_bytes(), case.printed, "{}", case.name);
+    }
+}
+
+/// The text so far of each interval that an hour takes prints the pages so far, and the whole text the same bytes again and again.
+#[test]
+fn printouts_of_one_hour_do_not_differ() {
+    for case in cases() {
+        let printed = print(&case.text);
+        assert_eq!(print(&case.text), printed, "{}", case.name);
+        let pieces = pieces(&case.text);
+        let Ok(mut hour) = Hour::open(&pieces[0]) else {
+            continue;
+        };
+        let mut pages = String::new();
+        for piece in &pieces[1..] {
+            let Ok(page) = hour.interval(piece) else {
+                break;
+            };
+            pages += &page_text(&page);
+            assert_eq!(print(hour.text()), pages.as_bytes(), "{}", case.name);
+            assert!(printed.starts_with(pages.as_bytes()), "{}", case.name);
+        }
+        if hour.text() == case.text {
+            assert_eq!(printed, pages.as_bytes(), "{}", case.name);
+        }
     }
 }
 

@@ -1,22 +1,20 @@
 -- Laws of what is put on a page. Assumes nothing.
-use Prim.Native.Nat.{ℕ, zero, suc, _+_, _-_, _≤_, _<_, min}
+use Prim.Native.Nat.{ℕ, _+_, _≤_, _<_, min}
 use mathlib.Core.Path.{_≡_, refl, sym, ap, _∙_}
-use mathlib.Core.List.{List, [], _∷_, _++_, map, map-append, append-nil, append-assoc}
+use mathlib.Core.List.{List, [], _∷_, _++_, map, append-nil}
 use mathlib.Core.Bool.{Bool, true, false, cond}
 use borrow.Author.Tests.{le-leb}
 use native.Mathlib.Omega.{arith}
-use native.Mathlib.Nat.{add-zero}
 use native.Mathlib.Numerals.{add-one}
 use lib.ListN.{length, drop, take, getD, length-append, length-take, drop-of-length-le}
 use lib.Seq.{sets, length-sets}
 use lib.IntN.{pos}
-use Rattle.rules_number.specs.Over.{those}
 use Rattle.rules_text.specs.Numbers.{Row}
-use Rattle.rules_path.specs.Verdicts.{findingNumber, isNamed}
+use Rattle.rules_path.specs.Verdicts.{findingNumber}
 use Rattle.rules_path.specs.declared.Finding.{Finding}
 use Rattle.rules_path.specs.declared.Finding.the-variants.{Competitive, NonCompetitive, NotBinding}
 use Rattle.rules_path.specs.declared.Verdict.{Verdict}
-use Rattle.rules_page.specs.Pages.{printable, sellerRow, sellersNamed, hasRoom, putWithin, putWithinTo}
+use Rattle.rules_page.specs.Pages.{printable, hasRoom, putWithin, putWithinTo}
 use Rattle.rules_text.specs.Printing.{lineText, groupText, tableText, printed, printedTo}
 use Rattle.rules_text.specs.declared.Printed.{Printed}
 use Rattle.rules_text.specs.declared.Printed.the-variants.{To, Full}
@@ -98,40 +96,6 @@ pub finding-small : (f : Finding) → findingNumber f < 100
 finding-small Competitive = omega arith
 finding-small NonCompetitive = omega arith
 finding-small NotBinding = omega arith
-
--- ---- the sellers named, one by one
--- those of the k portfolios from p on
-abbrev pub namedFrom : Verdict → ℕ → ℕ → List Row
-namedFrom v p zero = []
-namedFrom v p (suc k) = let later = namedFrom v (suc p) k in cond (isNamed v p) (sellerRow v p ∷ later) later
-
-split : (v : Verdict) (p k : ℕ) (t : Bool) → isNamed v p ≡ t → map (sellerRow v) (those (isNamed v) (suc p)) ++ namedFrom v (suc p) k ≡ map (sellerRow v) (those (isNamed v) p) ++ namedFrom v p (suc k)
-unfolding those
-split v p k true e = rw (e, map-append) (append-assoc (map (sellerRow v) (those (isNamed v) p)) (sellerRow v p ∷ []) (namedFrom v (suc p) k))
-split v p k false e = rw (e, append-nil (those (isNamed v) p))
-
-named-split : (v : Verdict) (p k : ℕ) → map (sellerRow v) (those (isNamed v) (p + k)) ≡ map (sellerRow v) (those (isNamed v) p) ++ namedFrom v p k
-named-split v p zero = ap (λ (n : ℕ). map (sellerRow v) (those (isNamed v) n)) (add-zero p) ∙ sym (append-nil (map (sellerRow v) (those (isNamed v) p)))
-named-split v p (suc k) =
-    let e : p + suc k ≡ suc p + k = omega arith in
-    ap (λ (n : ℕ). map (sellerRow v) (those (isNamed v) n)) e ∙ named-split v (suc p) k ∙ split v p k (isNamed v p) refl
-
-pub named-all : (v : Verdict) → sellersNamed v ≡ namedFrom v 0 16
-unfolding sellersNamed those
-named-all v = named-split v 0 16
-
-module _ (i c : ℕ) (v : Verdict) (p : ℕ) where
-  pub named-yes : p < 16 → isNamed v p ≡ true
-      → groupText i c (namedFrom v p (16 - p)) ≡ lineText (pos i ∷ pos c ∷ sellerRow v p) ++ groupText i c (namedFrom v (p + 1) (16 - (p + 1)))
-  unfolding groupText
-  named-yes h e = let k : 16 - p ≡ suc (16 - (p + 1)) = omega arith in rw (k, add-one, e)
-
-  pub named-no : p < 16 → isNamed v p ≡ false → groupText i c (namedFrom v p (16 - p)) ≡ groupText i c (namedFrom v (p + 1) (16 - (p + 1)))
-  named-no h e = let k : 16 - p ≡ suc (16 - (p + 1)) = omega arith in rw (k, add-one, e)
-
-  pub named-done : 16 ≤ p → groupText i c (namedFrom v p (16 - p)) ≡ []
-  unfolding groupText
-  named-done h = let k : 16 - p ≡ 0 = omega arith in rw k
 
 -- what a read past the end of an array of verdicts gives
 abbrev pub noVerdict : Verdict

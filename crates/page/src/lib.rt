@@ -4,7 +4,6 @@ use rules_interval::Interval;
 use rules_mitigation::Mitigated;
 use rules_opening::Row;
 use rules_path::Finding;
-use rules_path::Market;
 use rules_path::Verdict;
 use rules_text::Printed;
 ghost use mathlib.Core.Path.{_≡_};
@@ -130,19 +129,19 @@ fn put_verdicts(
     p
 }
 
-// Puts the sellers named for constraint c, a line each, and answers the offset after them.
+// Puts the sellers named for constraint c, a line each, the larger amount first, and answers the offset after them.
 fn put_named(out: &mut [u8], at: usize, i: u64, c: u64, v: Verdict) -> usize
     requires { ⌜ (at + 1344 ≤ length (now out)) × (c < 32) ⌝ }
     ensures { λ q. ⌜ Put 1344 (now (out .entry)) at (groupText (printableOf i) c (sellersNamed v)) (now (out .exit)) q ⌝ }
 {
+    let order = seller_order::order_of(v.named, &v.withheld);
     let mut q = at;
-    let mut p: usize = 0;
-    while p < Market::MAX_PORTFOLIOS {
+    let mut n: usize = 0;
+    while n < order.count {
+        let p = order.portfolios[n];
         let amount = v.withheld[p];
-        if verdict::names(v, p as u64) {
-            q = put_four(out, q, i, c, p as u64, printable(amount));
-        }
-        p += 1;
+        q = put_four(out, q, i, c, p as u64, printable(amount));
+        n += 1;
     }
     q
 }

@@ -25,6 +25,7 @@ use Rattle.rules_hour.specs.Hours.{Hour}
 use Rattle.rules_opening.proofs.CaseT.{openingT, intervalT}
 use Rattle.rules_text.specs.Numbers.{Row, bytes}
 use Rattle.rules_text.specs.Printing.{digits, decimal, lineText, groupText, tableText, refusalText}
+use Rattle.rules_page.specs.Weights.{leads, byWeight}
 use Rattle.rules_page.specs.Pages.{shown, stepRow, sellersNamed, curveRows, verdictNames, sellerNames, curveNames, verdictTable, sellerTable, curveTable, pageText, verdictText, curveText}
 use Rattle.rules_opening.specs.Resources.{liesInside, resourceRefusal, rowOf}
 
@@ -63,7 +64,7 @@ pageOf verdicts curves = (verdictNames ++ (verdictTable 1 1 verdicts ++ (sellerN
 
 printed : pageOf verdictsT (map stepRow (stepTo 15000 (pos 300000) ∷ stepTo 20000 (pos 378402) ∷ stepTo 30000 (pos 488402) ∷ []) ∷ [])
     ≡ bytes "interval constraint verdict demand left\n1 0 1 10000000000 0\ninterval constraint portfolio withheld\n1 0 0 15000000000\ninterval resource end price\n1 0 15000 300000\n1 0 20000 378402\n1 0 30000 488402\n"
-unfolding padded those isNamed digits decimal lineText groupText tableText shown sellersNamed verdictTable sellerTable
+unfolding padded isNamed digits decimal lineText groupText tableText shown leads byWeight sellersNamed verdictTable sellerTable
 printed = refl
 
 -- "It prints, whole"
@@ -88,14 +89,14 @@ pub record Tables : Type 0 where
   pub three : verdictTable 3 3 verdicts ≡ bytes "3 0 0 7 9\n3 1 2 0 0\n3 2 1 7 9\n"
   pub two : verdictTable 3 2 verdicts ≡ bytes "3 0 0 7 9\n3 1 2 0 0\n"
   pub none : verdictTable 3 0 verdicts ≡ []
-  -- portfolios rise
+  -- the larger amount first
   pub sellers-three : sellerTable 3 3 verdicts ≡ bytes "3 0 0 4\n3 0 2 3\n"
   pub sellers-none : sellerTable 3 0 verdicts ≡ []
   -- counts over the room
   pub over : verdictTable 3 33 (replicate 2 notBinding) ≡ bytes "3 0 2 0 0\n3 1 2 0 0\n"
 
 pub tables : Tables
-unfolding padded those isNamed digits decimal lineText groupText tableText shown sellersNamed verdictTable sellerTable
+unfolding padded isNamed digits decimal lineText groupText tableText shown leads byWeight sellersNamed verdictTable sellerTable
 tables = record { three = refl; two = refl; none = refl; sellers-three = refl; sellers-none = refl; over = refl }
 
 -- ---- a refusal

@@ -15,7 +15,7 @@ use Rattle.rules_interval.specs.Intervals.{intervalRefusal}
 use Rattle.rules_interval.specs.declared.Interval.{Interval}
 use Rattle.rules_path.specs.Judgements.{pathIn, verdictsOf, verdictsUnless}
 use Rattle.rules_path.specs.Paths.{withholdable}
-use Rattle.rules_path.specs.Verdicts.{findingNumber, verdictOf, notBinding}
+use Rattle.rules_path.specs.Verdicts.{findingNumber, verdictOf, notBinding, isNamed}
 use Rattle.rules_path.specs.declared.Market.{Market}
 use Rattle.rules_path.specs.declared.Verdict.{Verdict}
 use Rattle.rules_opening.specs.Openings.{openingRefusal, marketOf}
@@ -30,6 +30,7 @@ use Rattle.rules_text.specs.Printing.{tableText}
 use Rattle.rules_text.specs.Spelled.{Every, and-all}
 use Rattle.rules_page.specs.Pages.{printable, verdictRow, verdictRows, sellerRows, stepRow, verdictNames, sellerNames, curveNames, verdictTable, sellerTable, curveTable, verdictText, curveText, pageText}
 use Rattle.rules_page.proofs.SameValues.{same-quantity, same-verdict, same-curves}
+use Rattle.rules_page.proofs.SellerOrder.{same-weights}
 use Rattle.rules_page.proofs.SellerLines.{sellerLine, SellerLines, seller-lines}
 use Rattle.rules_page.proofs.StepBound.{StepFew, steps-few}
 use Rattle.rules_page.proofs.WithinBound.{verdict-few, withholdable-few}
@@ -44,7 +45,7 @@ stepLine s = pos (s .end) ∷ s .price ∷ []
 
 -- the page of interval i, judged on a market, that leaves n resources with these curves
 pub record OwnPage (i : ℕ) (m : Market) (v : Interval) (n : ℕ) (curves : ℕ → List Step) (text : List ℕ) : Type 0 where
-  -- the lines of the sellers of each constraint: exactly those named, each once, with what it can withhold
+  -- the lines of the sellers of each constraint: exactly those named, each once, with what it can withhold, the larger amount first
   pub sellers : ℕ → List Row
   pub named : (c : ℕ) → c < v .constraints → SellerLines (pathIn m v c) (withholdable (pathIn m v c)) (sellers c)
   -- "its three tables, names lines included"; "constraints and resources rise"
@@ -66,14 +67,21 @@ module _ (m : Market) (v : Interval) (passed : intervalRefusal (m .resources) v 
     -- and so is "withheld"
     pub own-sellers : SellerLines (pathIn m v c) (withholdable (pathIn m v c)) (sellerRows (verdictOf (pathIn m v c)))
     own-sellers =
-        let s = seller-lines (pathIn m v c) (le-refl 16) in
-        record { who = s .who; once = s .once; exactly = s .exactly; lines = s .lines ∙ own (s .who) }
+        let d = pathIn m v c in
+        let s = seller-lines d (le-refl 16) in
+        record {
+          who = s .who;
+          order = same-weights (withholdable d) (λ p. printable (withholdable d p)) (isNamed (verdictOf d)) (s .who) (λ p n. sym (whole p)) (s .order);
+          exactly = s .exactly;
+          lines = s .lines ∙ own (s .who);
+        }
       where
+        whole : (p : ℕ) → printable (withholdable (pathIn m v c) p) ≡ withholdable (pathIn m v c) p
+        whole p = same-quantity (withholdable (pathIn m v c) p) (omega (arith, withholdable-few m v passed c here p))
+
         own : (l : List ℕ) → map (sellerLine (λ p. printable (withholdable (pathIn m v c) p))) l ≡ map (sellerLine (withholdable (pathIn m v c))) l
         own [] = refl
-        own (p ∷ l) =
-            ap₂ (λ (a : ℕ) (t : List Row). (pos p ∷ pos a ∷ []) ∷ t)
-            (same-quantity (withholdable (pathIn m v c) p) (omega (arith, withholdable-few m v passed c here p))) (own l)
+        own (p ∷ l) = ap₂ (λ (a : ℕ) (t : List Row). (pos p ∷ pos a ∷ []) ∷ t) (whole p) (own l)
 
 -- the verdicts of an interval, in order
 judged : (m : Market) (v : Interval) → take (v .constraints) (verdictsOf m v) ≡ listed (λ c. verdictOf (pathIn m v c)) (v .constraints)

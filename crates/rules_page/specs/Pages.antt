@@ -1,4 +1,4 @@
--- Paper 01, Text: what an accepted interval prints, and when it is put into a lent buffer.
+-- Paper 01, Text, and paper 02, 2.3: what an accepted interval prints, and when it is put into a lent buffer.
 use Prim.Native.Nat.{ℕ, _+_, _≤_, min}
 use mathlib.Core.Path.{_≡_}
 use mathlib.Core.List.{List, [], _∷_, _++_, map}
@@ -7,7 +7,7 @@ use lib.ListN.{length, take, getD}
 use lib.Seq.{sets}
 use lib.Dec.{leb}
 use lib.IntN.{pos}
-use Rattle.rules_number.specs.Over.{listed, those}
+use Rattle.rules_number.specs.Over.{listed}
 use Rattle.rules_curve.specs.declared.Step.{Step}
 use Rattle.rules_mitigation.specs.Mitigation.{usedSteps}
 use Rattle.rules_path.specs.Verdicts.{findingNumber, notBinding, isNamed}
@@ -21,6 +21,7 @@ use Rattle.rules_text.specs.Numbers.{Row, bytes}
 use Rattle.rules_text.specs.Printing.{tableText}
 use Rattle.rules_text.specs.declared.Printed.{Printed}
 use Rattle.rules_text.specs.declared.Printed.the-variants.{To, Full}
+use Rattle.rules_page.specs.Weights.{byWeight}
 
 -- a quantity as it is printed: one past 63 bits, which the paper's limits rule out, as the largest number of 63 bits
 abbrev pub printable : ℕ → ℕ
@@ -45,13 +46,16 @@ abbrev pub verdictRows : Verdict → List Row
 verdictRows v = verdictRow (shown v) ∷ []
 
 -- ---- "interval constraint portfolio withheld"
--- portfolio p and what it withholds
-abbrev pub sellerRow : Verdict → ℕ → Row
-sellerRow v p = pos p ∷ pos (printable (getD (v .withheld) p 0)) ∷ []
+-- what portfolio p withholds, as it is printed
+abbrev pub weightOf : Verdict → ℕ → ℕ
+weightOf v p = printable (getD (v .withheld) p 0)
 
--- the sellers that a verdict names: paper 01 leaves their order open, and here portfolios rise
+abbrev pub sellerRow : Verdict → ℕ → Row
+sellerRow v p = pos p ∷ pos (weightOf v p) ∷ []
+
+-- the sellers that a verdict names: "the larger withheld amount now comes first, equal ones by lower portfolio number"
 abbrev pub sellersPrinted : Verdict → List ℕ
-sellersPrinted v = those (isNamed v) 16
+sellersPrinted v = byWeight 16 (weightOf v) (isNamed v)
 
 unfoldable pub sellersNamed : Verdict → List Row
 sellersNamed v = map (sellerRow v) (sellersPrinted v)

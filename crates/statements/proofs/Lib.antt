@@ -5,6 +5,7 @@ pub mod RefusedOpenings
 pub mod RefusedCalls
 pub mod Paths
 pub mod Marked
+pub mod Sellers
 pub mod Curves
 pub mod DefaultCurves
 pub mod Texts

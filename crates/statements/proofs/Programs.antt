@@ -15,7 +15,6 @@ use Rattle.rules_mitigation.specs.Mitigation.{usedSteps}
 use Rattle.rules_interval.specs.Intervals.{intervalRefusal}
 use Rattle.rules_interval.specs.declared.Interval.{Interval}
 use Rattle.rules_path.specs.Judgements.{pathIn, verdictsOf}
-use Rattle.rules_path.specs.Paths.{Path, withholdable, share}
 use Rattle.rules_path.specs.Verdicts.{verdictOf, findingNumber}
 use Rattle.rules_path.specs.declared.Market.{Market}
 use Rattle.rules_opening.specs.Openings.{openingRefusal, marketOf}
@@ -29,7 +28,6 @@ use Rattle.rules_text.specs.Tables.{found}
 use Rattle.rules_text.specs.Printing.{lineText, tableText, refusalText}
 use Rattle.rules_text.specs.Spelled.{together}
 use Rattle.rules_parts.specs.Parts.{readOpening, readInterval}
-use Rattle.rules_page.proofs.SellerLines.{SellerLines}
 use Rattle.rules_page.proofs.StepBound.{StepFew, steps-few}
 use Rattle.rules_page.proofs.WithinBound.{verdict-few}
 use Rattle.rules_run.specs.Run.{pageLeaving, intervals, output, lastLines}
@@ -37,10 +35,10 @@ use Rattle.rules_run.specs.Run.{endOf as endOfRun}
 use Rattle.rules_run.proofs.Meaning.{five-suffice, page-of-list}
 use Rattle.rules_run.proofs.SoFar.{Accepts, text-so-far}
 use Rattle.rules_run.proofs.Program.{Demanded, TheCurve, Page, Prints, Program, refused, printed, program}
-use Rattle.statements.proofs.Paths.{Bit, Withholdable}
+use Rattle.statements.proofs.Sellers.{SellersSay, sellers-say}
 use Rattle.statements.proofs.Texts.{each}
 use Rattle.statements.proofs.Curves.{Rises, Differ, rises, differ}
-use Rattle.statements.proofs.Demand3.{bid, CapOf, Accepted, Demand3Says, demand3-says, caps-are, rising-at}
+use Rattle.statements.proofs.Demand3.{bid, CapOf, Accepted, Demand3Says, demand3-says, caps-are}
 use Rattle.statements.proofs.Hours.{hourAt, JudgedSays, verdict-says}
 use Rattle.statements.proofs.Runs.{Opens, opens}
 
@@ -64,13 +62,6 @@ module _ (o : Opening) (calls : List Interval) (r : ℕ) where
     pub demand-3 : Demand3Says o calls r
     pub after : steps ≡ usedSteps (curveIn (hourAt o calls) r)
     pub only : (others : List Step) → (others ≡ steps) ↔ Meets others
-
--- ---- the lines of the sellers named for a constraint: "only the sellers' print order is open, each printed once"
-abbrev SellersSay : Path → List Row → Type 0
-SellersSay d rows =
-    (who : List ℕ) × ((i : ℕ) → suc i < length who → getD who i 0 < getD who (suc i) 0)
-    × ((p : ℕ) → List·Memᴰ p who ↔ (Bit p (verdictOf d .named) ≡ 1))
-    × (rows ≡ map (λ p. pos p ∷ pos (Withholdable d p) ∷ []) who)
 
 -- ---- the page of call v, after the calls before it: "Each accepted interval, counted from 1, prints its three tables, names lines included"
 pub record PageSays (o : Opening) (before : List Interval) (v : Interval) (page : List ℕ) : Type 0 where
@@ -137,10 +128,6 @@ one-curve o opened calls r steps t =
       after = t .after;
       only = λ others. ((λ e. rw e (m steps .0 (t .demanded))), λ h. t .only others (m others .1 h));
     }
-
-sellers-say : (d : Path) (rows : List Row) → SellerLines d (withholdable d) rows → SellersSay d rows
-unfolding withholdable share
-sellers-say d rows s = (s .who, rising-at 0 (s .who) (s .once), s .exactly, s .lines)
 
 page-says : (o : Opening) → openingRefusal o ≡ 0 → (before : List Interval) (v : Interval) (page : List ℕ) → Page o before v page → PageSays o before v page
 page-says o opened before v page p = record {

@@ -33,6 +33,15 @@ fn print(coverage: &Coverage) {
     println!("constraints one above equality {}", coverage.one_above);
     println!("constraints with ties {}", coverage.ties);
     println!("constraints where a tie decides {}", coverage.deciding_ties);
+    println!(
+        "constraints with several sellers {}",
+        coverage.several_sellers
+    );
+    println!(
+        "  printed other than by rising number {}",
+        coverage.sellers_not_rising
+    );
+    println!("  with equal ones among them {}", coverage.equal_sellers);
     println!("most steps in a curve {}", coverage.most_steps);
     println!("curves of 19 steps {}", coverage.curves_of_19_steps);
     println!("curves cut {}", coverage.curves_cut);

@@ -105,13 +105,32 @@ pub fn add_resource(opening: &mut Part, portfolio: i128, drawn: &Drawn) {
     rows_mut(opening, COSTS).push([vec![id], row.to_vec()].concat());
 }
 
+/// Which portfolios own more.
+#[derive(Clone, Copy, Debug)]
+enum Larger {
+    Lower,
+    Higher,
+    ByChance,
+}
+
+fn owner(rng: &mut Random, portfolios: usize, larger: Larger) -> i128 {
+    let (one, other) = (rng.below(portfolios), rng.below(portfolios));
+    let portfolio = match larger {
+        Larger::Lower => one.min(other),
+        Larger::Higher => one.max(other),
+        Larger::ByChance => one,
+    };
+    portfolio as i128
+}
+
 pub fn opening(rng: &mut Random, shape: &Shape) -> Part {
     let mut part = empty_opening();
     let month = month(rng);
     *rows_mut(&mut part, MONTH) = vec![vec![month]];
     *rows_mut(&mut part, PORTFOLIOS) = seller_rows(rng, shape.portfolios);
+    let larger = rng.pick(&[Larger::Lower, Larger::Higher, Larger::ByChance]);
     for _ in 0..shape.resources {
-        let portfolio = rng.below(shape.portfolios.max(1)) as i128;
+        let portfolio = owner(rng, shape.portfolios.max(1), larger);
         let drawn = draw(rng, shape.scale, shape.lengths, month);
         add_resource(&mut part, portfolio, &drawn);
     }

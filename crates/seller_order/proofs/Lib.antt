@@ -1,0 +1,2 @@
+-- Laws of the order, and of the bits left.
+pub mod OrderLaws

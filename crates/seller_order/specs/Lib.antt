@@ -1,0 +1,2 @@
+-- How the code holds its values.
+pub mod Orders
