@@ -5,6 +5,7 @@ pub mod NumberLaws
 pub mod LineLaws
 pub mod RowLaws
 pub mod NameLaws
+pub mod WordLaws
 pub mod TableLaws
 pub mod Examples
 pub mod PrintLaws

@@ -40,7 +40,7 @@ starts-short (a ∷ w) [] h = refl
 starts-short (a ∷ w) (b ∷ t) h = short-by (eqb a b) (starts w t) (starts-short w t (omega arith))
 
 module _ (s : List ℕ) (at : ℕ) (w : List ℕ) where
-  names-by : (b : Bool) → starts w (drop at s) ≡ b → cond b (At (at + length w)) Nothing ≡ namesAt s at w
+  pub names-by : (b : Bool) → starts w (drop at s) ≡ b → cond b (At (at + length w)) Nothing ≡ namesAt s at w
   unfolding namesAt
   names-by b e = ap (λ (x : Bool). cond x (At (at + length w)) Nothing) (sym e ∙ starts-take w (drop at s))
 

@@ -2,5 +2,6 @@
 pub mod Numbers
 pub mod Tables
 pub mod Offsets
+pub mod Words
 pub mod Printing
 pub mod Spelled

@@ -9,6 +9,7 @@ pub mod Sellers
 pub mod Curves
 pub mod DefaultCurves
 pub mod Texts
+pub mod Words
 pub mod Tables
 pub mod Parts
 pub mod Demand3
