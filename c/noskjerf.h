@@ -3,7 +3,7 @@
  *
  * A text holds the tables that open a trading hour and those of its intervals (docs/FORMAT.md). Running it prints, for each accepted
  * interval, the verdict on every constraint, the sellers named and the mitigated bid curves; or it prints a refusal, which is a number
- * from 1 to 18 and a line of the text (docs/REFUSALS.md).
+ * from 1 to 18 and a line of the text (docs/REFUSALS.md). An interval's parameter may be missing, the line "-", and then means 0.
  *
  * What holds for every function here:
  * - It takes any numbers and any bytes. Whatever is wrong with them is answered, never left undefined.

@@ -2,7 +2,7 @@
 
 use crate::generate;
 use crate::hour::component;
-use crate::print::{answer, by_weight, Accepted, Answer};
+use crate::print::{answer, by_weight, print, Accepted, Answer};
 use crate::verdict::{Verdict, COMPETITIVE, NON_COMPETITIVE, NOT_BINDING};
 use std::ops::Range;
 
@@ -43,6 +43,8 @@ pub struct Coverage {
     pub components_negative: usize,
     pub prices_negative: usize,
     pub parameters_missing: usize,
+    /// Texts that print something else with 100 written for each missing parameter.
+    pub missing_deciding: usize,
     /// Texts of 65,535, 65,536 and 65,537 bytes.
     pub sizes: [usize; 3],
     pub full_texts_accepted_whole: usize,
@@ -70,6 +72,13 @@ impl Coverage {
         self.full_texts_accepted_whole += usize::from(full && answer.refused.is_none());
         let lines = text.split(|&byte| byte == b'\n');
         self.parameters_missing += lines.filter(|line| *line == b"-").count();
+        self.count_deciding(text, answer);
+    }
+
+    fn count_deciding(&mut self, text: &[u8], found: &Answer) {
+        let written = with_hundreds(text);
+        let decides = written != text && written.len() <= 65_536;
+        self.missing_deciding += usize::from(decides && print(&answer(&written)) != print(found));
     }
 
     fn count_answer(&mut self, answer: &Answer) {
@@ -184,11 +193,24 @@ impl Coverage {
                 self.components_negative,
                 self.prices_negative,
                 self.parameters_missing,
+                self.missing_deciding,
                 self.full_texts_accepted_whole,
             ]
             .iter()
             .all(|&count| count > 0)
     }
+}
+
+/// 2.5: "must write 100"
+fn with_hundreds(text: &[u8]) -> Vec<u8> {
+    let mut written = Vec::new();
+    let mut names: &[u8] = b"";
+    for line in text.split_inclusive(|&byte| byte == b'\n') {
+        let missing = names == b"parameter\n" && line == b"-\n";
+        written.extend_from_slice(if missing { b"100\n" } else { line });
+        names = line;
+    }
+    written
 }
 
 /// Two net sellers can withhold the same.

@@ -176,12 +176,12 @@ impl<'a> Reader<'a> {
         Ok(rows)
     }
 
-    /// "Parameter '-' alone is missing and means 100."
+    /// "Parameter '-' alone is missing", and 2.5: "Missing now means 0, formerly 100."
     fn parameter(&mut self) -> Result<i128, Refused> {
         self.names(PARAMETER)?;
         if self.peek() == Some(b"-") {
             self.skip(b"-");
-            return Ok(100);
+            return Ok(0);
         }
         Ok(self.row(PARAMETER, &[], &|_, _| true)?[0])
     }

@@ -81,7 +81,7 @@ impl Hour {
         })
     }
 
-    /// Takes an interval: the last four tables of a text, from `constraint shadow` to `parameter`.
+    /// Takes an interval: the last four tables of a text, from `constraint shadow` to `parameter`. A parameter `-` is missing and means 0.
     pub fn interval(&mut self, part: &[u8]) -> Result<Page, Refusal> {
         let text = [&self.text, part].concat();
         let output = run(&text);

@@ -9,7 +9,7 @@ use Rattle.rules_text.specs.Tables.{Reading, faulty, found, next, headed, due, 
 use Rattle.rules_text.specs.Offsets.{namesAt, bytesOf}
 use Rattle.rules_text.specs.declared.Found.the-variants.{At, Nothing}
 use Rattle.rules_text.proofs.NameLaws.{not-headed, past-names}
-use Rattle.rules_parts.specs.Parts.{factorRows, isFactor, parameterOf, intervalOf, readInterval}
+use Rattle.rules_parts.specs.Parts.{factorRows, isFactor, parameterOf, intervalOf, readIntervalBy, readInterval}
 use Rattle.rules_parts.proofs.IntervalStages.{last, lastTwo, lastThree}
 use Rattle.read_interval.specs.Shown.{reading}
 use Rattle.rules_text.proofs.StageLaws.{Stage, run-few, table}
@@ -35,12 +35,12 @@ module _ (s : List ℕ) (n at q : ℕ) (count at' : ℕ) where
 -- ---- the part, as far as it is read
 module _ (s : List ℕ) (n at : ℕ) where
   pub unnamed-one : Nothing ≡ namesAt s at (bytes "constraint shadow\n") → readInterval n (lines (drop at s)) ≡ faulty (n + 1)
-  unfolding readInterval
+  unfolding readIntervalBy
   unnamed-one e = ap (λ (r : Reading (List Row)). next r lastThree) (not-headed "constraint shadow\n" (counted 2) n s at refl e)
 
   module _ (cs : List Row) (n1 at1 : ℕ) (one : Stage (headed "constraint shadow\n" (counted 2)) s n at cs n1 at1) where
     read-one : readInterval n (lines (drop at s)) ≡ lastThree cs n1 (lines (drop at1 s))
-    unfolding readInterval
+    unfolding readIntervalBy
     read-one = ap (λ (r : Reading (List Row)). next r lastThree) (one .is)
 
     pub unnamed-two : Nothing ≡ namesAt s at1 (bytes "resource lmp dispatch available floor\n") → readInterval n (lines (drop at s)) ≡ faulty (n1 + 1)

@@ -12,7 +12,7 @@ use Rattle.rules_text.specs.Tables.{Reading, faulty, found, taken, due, headed,
 use Rattle.rules_text.proofs.LineLaws.{line, after, lines-after, next-lines}
 use Rattle.rules_text.proofs.TableLaws.{row-there, due-none, due-some}
 use Rattle.rules_text.proofs.UsedLaws.{Used, used-then, Rises}
-use Rattle.rules_parts.specs.Parts.{parameterOf}
+use Rattle.rules_parts.specs.Parts.{parameterBy, parameterOf}
 use Rattle.read_interval.specs.Shown.{reading, faultAlone, aloneIf, nextIf}
 use Rattle.read_interval.specs.declared.IntervalRead.{IntervalRead}
 
@@ -60,24 +60,24 @@ module _ (s : List ℕ) (at n : ℕ) where
 
 -- ---- the parameter: "-" alone, or a line of one value
 abbrev missing : ℕ → List Line → Reading ℤ
-missing = found (pos 100)
+missing = found (pos 0)
 
 is-missing : (b : Bool) (o : Option ℤ) (n : ℕ) (ls : List Line) (j : ℕ) (rest : List Line) → cond b (missing (suc n) ls) (faulty (suc n)) ≡ missing j rest
-    → taken (cond b (some (pos 100)) o) n ls ≡ missing j rest
+    → taken (cond b (some (pos 0)) o) n ls ≡ missing j rest
 is-missing true o n ls j rest e = e
 is-missing false o n ls j rest e = let z : _≡_ {A = ℕ} 0 1 = cc in absurd (omega arith)
 
-is-there : (b : Bool) (o : Option ℤ) (n : ℕ) (ls : List Line) (j : ℕ) → cond b (missing (suc n) ls) (faulty (suc n)) ≡ faulty j → taken (cond b (some (pos 100)) o) n ls ≡ taken o n ls
+is-there : (b : Bool) (o : Option ℤ) (n : ℕ) (ls : List Line) (j : ℕ) → cond b (missing (suc n) ls) (faulty (suc n)) ≡ faulty j → taken (cond b (some (pos 0)) o) n ls ≡ taken o n ls
 is-there true o n ls j e = let z : _≡_ {A = ℕ} 0 1 = cc in absurd (omega arith)
 is-there false o n ls j e = refl
 
 pub parameter-missing : (n : ℕ) (ls : List Line) (j : ℕ) (rest : List Line) → headed "-\n" missing n ls ≡ missing j rest → due parameterOf n ls ≡ missing j rest
-unfolding headed due parameterOf
+unfolding headed due parameterBy
 parameter-missing n [] j rest e = let z : _≡_ {A = ℕ} 0 1 = cc in absurd (omega arith)
 parameter-missing n (l ∷ ls) j rest e = is-missing (same (bytes "-\n") l) (single l) n ls j rest e
 
 pub parameter-there : (n : ℕ) (ls : List Line) (j : ℕ) → headed "-\n" missing n ls ≡ faulty j → due parameterOf n ls ≡ due single n ls
-unfolding headed due parameterOf
+unfolding headed due parameterBy
 parameter-there n [] j e = refl
 parameter-there n (l ∷ ls) j e = is-there (same (bytes "-\n") l) (single l) n ls j e
 

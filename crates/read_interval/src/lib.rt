@@ -23,6 +23,9 @@ ghost use Rattle.read_interval.specs.Shown.{shownValue, tablesOf, shownI
 // A text has at most so many lines: a larger number before a part counts as that.
 pub const MAX_LINES: usize = 65_536;
 
+// What a missing parameter means (paper 02, 2.5: "Missing now means 0").
+pub const MISSING_PARAMETER: i64 = 0;
+
 // What reading an interval's part answers: the interval, the number of its last line and the offset of the next, or the number of the faulty line.
 pub struct IntervalRead {
     pub fault: usize,
@@ -113,7 +116,7 @@ fn outputs_at(s: &[u8], at: usize) -> Outputs
     }
 }
 
-// The parameter at an offset before which n lines stand: "-" alone means 100.
+// The parameter at an offset before which n lines stand: "-" alone is missing.
 fn parameter_at(s: &[u8], at: usize, n: usize) -> Value
     requires { ⌜ n ≤ 70000 + length (now s) ⌝ }
     ensures { λ r. ⌜ shownValue (now (s .entry)) r ≡ due parameterOf n (lines (drop at (now (s .entry)))) ⌝ }
@@ -124,7 +127,7 @@ fn parameter_at(s: &[u8], at: usize, n: usize) -> Value
     };
     Value {
         fault: 0,
-        value: 100,
+        value: MISSING_PARAMETER,
         line: n + 1,
         next,
     }

@@ -10,7 +10,7 @@ use Rattle.rules_opening.proofs.CaseT.{bidT, costsT, openingT, intervalT}
 use Rattle.rules_text.specs.Numbers.{bytes, lines, number, magnitude, row}
 use Rattle.rules_text.specs.Tables.{faulty, found, headed, due, single, run, rows, counted, grouped, pairs, each}
 use Rattle.rules_text.specs.Offsets.{kept}
-use Rattle.rules_parts.specs.Parts.{bidOf, resourceOf, resourcesOf, openingOf, readOpening, isDeclared, isFactor, factorRows, withFactors, intervalOf, parameterOf, readInterval}
+use Rattle.rules_parts.specs.Parts.{bidOf, resourceOf, resourcesOf, openingOf, readOpening, isDeclared, isFactor, factorRows, withFactors, intervalOf, parameterBy, parameterOf, readIntervalBy, readInterval}
 
 -- ---- Case T
 opening-text : String
@@ -36,13 +36,13 @@ opens = refl
 
 -- lines 16 to 23
 pub reads-interval : readInterval 15 (lines (bytes interval-text)) ≡ found intervalT 23 []
-unfolding interval-text readInterval intervalOf factorRows isFactor isDeclared withFactors parameterOf headed due single counted rows run row number magnitude kept padded
+unfolding interval-text readIntervalBy intervalOf factorRows isFactor isDeclared withFactors parameterBy headed due single counted rows run row number magnitude kept padded
 reads-interval = refl
 
 -- ---- small texts
 -- the text ends early: the line after the last
 ends-early : readInterval 15 (lines (bytes "constraint shadow\n0 5\n")) ≡ faulty 18
-unfolding readInterval headed counted rows run row number magnitude
+unfolding readIntervalBy headed counted rows run row number magnitude
 ends-early = refl
 
 two-factors : factorRows 2 2 (lines (bytes "0 1 5\n1 0 -6\n")) ≡ (pos 0 ∷ pos 1 ∷ pos 5 ∷ []) ∷ (pos 1 ∷ pos 0 ∷ negsuc 5 ∷ []) ∷ []
@@ -61,6 +61,11 @@ undeclared-factor : factorRows 1 1 (lines (bytes "0 1 5\n")) ≡ []
 unfolding factorRows isFactor isDeclared run row number magnitude
 undeclared-factor = refl
 
-missing-parameter : due parameterOf 22 (lines (bytes "-\n")) ≡ found (pos 100) 23 []
-unfolding due parameterOf
+missing-parameter : due parameterOf 22 (lines (bytes "-\n")) ≡ found (pos 0) 23 []
+unfolding due parameterBy
 missing-parameter = refl
+
+-- an empty line isn't "-"
+empty-parameter : due parameterOf 22 (lines (bytes "\n")) ≡ faulty 23
+unfolding due parameterBy single row number magnitude
+empty-parameter = refl

@@ -10,7 +10,7 @@ use Rattle.rules_interval.specs.declared.Interval.{Interval}
 use Rattle.rules_opening.specs.declared.Opening.{Opening}
 use Rattle.rules_text.specs.Numbers.{Line, Row, bytes, number, magnitude, row}
 use Rattle.rules_text.specs.Tables.{Reader, found, faulty, due, headed, single, run, rows, counted, grouped, pairs, each}
-use Rattle.rules_parts.specs.Parts.{openingOf, readOpening, isFactor, placeOf, factorRows, parameterOf, intervalOf, readInterval}
+use Rattle.rules_parts.specs.Parts.{openingOf, readOpening, isFactor, placeOf, factorRows, parameterBy, parameterOf, intervalOf, readIntervalBy, readInterval}
 use Rattle.rules_text.specs.Printing.{lineText}
 use Rattle.rules_parts.specs.Faults.{First}
 use Rattle.rules_text.proofs.ReaderLaws.{single-back}
@@ -50,8 +50,8 @@ opening-outer =
 pub opening-first : (n : ℕ) (ls : List Line) (line : ℕ) → readOpening n ls ≡ faulty line → First readOpening n ls line
 opening-first = first-of readOpening opening-outer
 
-missing : parameterOf (bytes "-\n") ≡ some (pos 100)
-unfolding parameterOf
+missing : parameterOf (bytes "-\n") ≡ some (pos 0)
+unfolding parameterBy
 missing = refl
 
 factors-inner : (n m : ℕ) → Inner (rows (factorRows n m)) Any
@@ -59,13 +59,13 @@ unfolding factorRows
 factors-inner n m = rows-inner (factorRows n m) Any (run-rows 2 (isFactor n m) (λ i x. suc (placeOf m x)) Any 0 (λ ls. refl))
 
 interval-outer : Outer readInterval Any
-unfolding readInterval number magnitude
+unfolding readIntervalBy number magnitude
 interval-outer =
     then-outer (headed "constraint shadow\n" (counted 2)) _ Few Any (headed-outer "constraint shadow\n" (counted 2) Few refl (counted-inner 1)) (λ cs a.
     then-outer (headed "resource lmp dispatch available floor\n" (counted 5)) _ Few Any (headed-outer "resource lmp dispatch available floor\n" (counted 5) Few refl (counted-inner 4)) (λ os b.
     then-outer (headed "resource constraint factor\n" (rows (factorRows (length os) (length cs)))) _ Any Any
     (headed-outer "resource constraint factor\n" (rows (factorRows (length os) (length cs))) Any refl (factors-inner (length os) (length cs))) (λ fs c.
-    then-outer (headed "parameter\n" (due parameterOf)) _ Any Any (headed-outer "parameter\n" (due parameterOf) Any refl (due-inner parameterOf (bytes "-\n") (pos 100) missing)) (λ p d.
+    then-outer (headed "parameter\n" (due parameterOf)) _ Any Any (headed-outer "parameter\n" (due parameterOf) Any refl (due-inner parameterOf (bytes "-\n") (pos 0) missing)) (λ p d.
     found-outer (intervalOf cs os fs p) Any refl))))
 
 pub interval-first : (n : ℕ) (ls : List Line) (line : ℕ) → readInterval n ls ≡ faulty line → First readInterval n ls line

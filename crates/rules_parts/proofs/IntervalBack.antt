@@ -13,7 +13,7 @@ use Rattle.rules_text.specs.Numbers.{Line, Row, bytes, same, lines, number, mag
 use Rattle.rules_text.specs.Tables.{Reader, found, due, headed, cell, single, counted, rows}
 use Rattle.rules_text.specs.Offsets.{kept}
 use Rattle.rules_text.proofs.NameLaws.{isLine, same-eq}
-use Rattle.rules_parts.specs.Parts.{readInterval, intervalOf, factorRows, parameterOf}
+use Rattle.rules_parts.specs.Parts.{readIntervalBy, readInterval, intervalOf, factorRows, parameterBy, parameterOf}
 use Rattle.rules_parts.proofs.IntervalStages.{by-fields, last, lastTwo, lastThree}
 use Rattle.rules_text.specs.Printing.{lineText}
 use Rattle.rules_parts.specs.Texts.{GivenInterval, GivenOutput, GivenFactor, shadowRow, outputRow, factorRow, parameterLine, parameterIs, intervalLines, intervalText, intervalIs, IntervalSmall, IntervalFits}
@@ -24,7 +24,7 @@ use Rattle.rules_parts.proofs.FactorBack.{factors-back, cells-back}
 use Rattle.rules_parts.proofs.KeptLaws.{kept-padded, map-same}
 
 -- ---- the parameter
-there : (z : ℤ) (b : Bool) → same (bytes "-\n") (lineText (z ∷ [])) ≡ b → single (lineText (z ∷ [])) ≡ some z → cond b (some (pos 100)) (single (lineText (z ∷ []))) ≡ some z
+there : (z : ℤ) (b : Bool) → same (bytes "-\n") (lineText (z ∷ [])) ≡ b → single (lineText (z ∷ [])) ≡ some z → cond b (some (pos 0)) (single (lineText (z ∷ []))) ≡ some z
 unfolding single row number magnitude
 there z true e h =
     let q : single (bytes "-\n") ≡ some z = ap single (same-eq (bytes "-\n") (lineText (z ∷ [])) e) ∙ h in
@@ -32,8 +32,8 @@ there z true e h =
     absurd (omega arith)
 there z false e h = h
 
-parameter-back : (p : Option ℤ) → ((z : ℤ) → p ≡ some z → Small z) → parameterOf (parameterLine p) ≡ some (parameterIs p)
-unfolding parameterOf
+pub parameter-back : (p : Option ℤ) → ((z : ℤ) → p ≡ some z → Small z) → parameterOf (parameterLine p) ≡ some (parameterIs p)
+unfolding parameterBy
 parameter-back none h = refl
 parameter-back (some z) h = there z (same (bytes "-\n") (lineText (z ∷ []))) refl (single-back z (h z refl))
 
@@ -91,7 +91,7 @@ module _ (i : GivenInterval) (fits : IntervalSmall i) (few : length (i .outputs)
       few refl)) three-back
 
   pub reads : Reads readInterval (intervalLines i) (got i) rest
-  unfolding number magnitude readInterval intervalLines
+  unfolding number magnitude readIntervalBy intervalLines
   reads =
       let more = linesTwo i ++ (linesThree i ++ linesFour i) in
       then-back (headed "constraint shadow\n" (counted 2)) (λ x. lastThree x) (linesOne i) more (cs i) (got i) rest

@@ -4,7 +4,7 @@ use mathlib.Core.Path.{_≡_, refl, sym, ap, subst, _∙_}
 use mathlib.Core.List.{List, [], _∷_, _++_, map}
 use mathlib.Core.Option.{Option, none, some}
 use mathlib.Core.Bool.{Bool, true, false, cond, _&&_}
-use mathlib.Core.Logic.{_⊎_, inl, inr, ⊎-elim}
+use mathlib.Core.Logic.{_⊎_, inl, inr, ⊎-elim, _↔_}
 use native.Mathlib.Omega.{arith}
 use native.Mathlib.Nat.{suc-mul, mul-le-mul-right}
 use borrow.Author.Tests.{leb-true}
@@ -16,14 +16,14 @@ use Rattle.rules_interval.specs.declared.Interval.{Interval}
 use Rattle.rules_text.specs.Numbers.{Line, Row, bytes, same}
 use Rattle.rules_text.specs.Tables.{Reader, found, due, headed, cell, single, run, rows, counted}
 use Rattle.rules_text.proofs.NameLaws.{same-eq}
-use Rattle.rules_parts.specs.Parts.{isDeclared, place, placeOf, isFactor, factorRows, parameterOf, intervalOf, readInterval}
+use Rattle.rules_parts.specs.Parts.{isDeclared, place, placeOf, isFactor, factorRows, parameterBy, parameterOf, intervalOf, readIntervalBy, readInterval}
 use Rattle.rules_parts.proofs.DeclaredLaws.{declared-below}
 use Rattle.rules_parts.proofs.IntervalStages.{last, lastTwo, lastThree}
 use Rattle.rules_text.specs.Printing.{lineText}
 use Rattle.rules_parts.specs.Texts.{GivenInterval, GivenOutput, GivenFactor, shadowRow, outputRow, factorRow, parameterLine, parameterIs, intervalLines, Before, Rising, empty, single as alone, next, FactorFits, IntervalSmall}
 use Rattle.rules_text.specs.Spelled.{Every, no-more, and-all, Small, tableLines, countedRows}
 use Rattle.rules_text.proofs.ReaderLaws.{Values, counted-length}
-use Rattle.rules_parts.proofs.IntervalBack.{got}
+use Rattle.rules_parts.proofs.IntervalBack.{parameter-back, got}
 use Rattle.rules_text.proofs.OnlySpelling.{Spelled}
 use Rattle.rules_parts.proofs.OnlyRows.{Suited, Run, goes, ran, Due, Counts, two, headed-only, due-only, single-only, rows-only, counted-only}
 use Rattle.rules_parts.proofs.OnlyOpening.{firsts, firsts-are, firsts-small, counted-as, ones, ones-are, glue}
@@ -38,15 +38,32 @@ record Parameter (l : Line) (z : ℤ) : Type 0 where
   pub value : parameterIs p ≡ z
   pub small : (y : ℤ) → p ≡ some y → Small y
 
-parameter-by : (l : Line) (z : ℤ) (b : Bool) → same (bytes "-\n") l ≡ b → cond b (some (pos 100)) (single l) ≡ some z → Parameter l z
+parameter-by : (l : Line) (z : ℤ) (b : Bool) → same (bytes "-\n") l ≡ b → cond b (some (pos 0)) (single l) ≡ some z → Parameter l z
 parameter-by l z true e h = record { p = none; line = sym (same-eq (bytes "-\n") l e); value = cc; small = λ y w. no (cc) }
 parameter-by l z false e h =
     let s = single-only l z h in
     record { p = some z; line = s .0; value = refl; small = λ y w. let q : z ≡ y = cc in subst Small q (s .1) }
 
 parameter-only : (l : Line) (z : ℤ) → parameterOf l ≡ some z → Parameter l z
-unfolding parameterOf
+unfolding parameterBy
 parameter-only l z h = parameter-by l z (same (bytes "-\n") l) refl h
+
+-- paper 02, 2.5, "Missing now means 0": a line is read as a parameter exactly if it is "-" alone, and then as 0, or the line of a number, and then as that
+pub parameter-exactly : (l : Line) (z : ℤ) → (parameterOf l ≡ some z) ↔ (((l ≡ bytes "-\n") × (z ≡ pos 0)) ⊎ ((l ≡ lineText (z ∷ [])) × Small z))
+parameter-exactly l z = ((λ h. said (parameter-only l z h)), λ s. ⊎-elim missing written s)
+  where
+    by : (p : Option ℤ) → l ≡ parameterLine p → parameterIs p ≡ z → ((y : ℤ) → p ≡ some y → Small y) → ((l ≡ bytes "-\n") × (z ≡ pos 0)) ⊎ ((l ≡ lineText (z ∷ [])) × Small z)
+    by none e v s = inl (e, sym v)
+    by (some y) e v s = inr (e ∙ ap (λ (x : ℤ). lineText (x ∷ [])) v, subst Small v (s y refl))
+
+    said : Parameter l z → ((l ≡ bytes "-\n") × (z ≡ pos 0)) ⊎ ((l ≡ lineText (z ∷ [])) × Small z)
+    said r = by (r .p) (r .line) (r .value) (r .small)
+
+    missing : (l ≡ bytes "-\n") × (z ≡ pos 0) → parameterOf l ≡ some z
+    missing e = ap parameterOf (e .0) ∙ parameter-back none (λ y w. no (cc)) ∙ ap (λ (x : ℤ). some x) (sym (e .1))
+
+    written : (l ≡ lineText (z ∷ [])) × Small z → parameterOf l ≡ some z
+    written e = ap parameterOf (e .0) ∙ parameter-back (some z) (λ y w. let q : z ≡ y = cc in subst Small q (e .1))
 
 -- ---- outputs
 abbrev outputFrom : Row → GivenOutput
@@ -208,7 +225,7 @@ record FromOne (ls : List Line) (a : Interval) (ls' : List Line) : Type 0 where
   pub more : FromTwo cs left a ls'
 
 from-one : (n : ℕ) (ls : List Line) (a : Interval) (n' : ℕ) (ls' : List Line) → readInterval n ls ≡ found a n' ls' → FromOne ls a ls'
-unfolding readInterval
+unfolding readIntervalBy
 from-one n ls a n' ls' h =
     let A = two (headed "constraint shadow\n" (counted 2)) (λ x. lastThree x) n ls a n' ls' h in
     let B = headed-only "constraint shadow\n" (counted 2) n ls (A .a) (A .at) (A .left) (A .first) in

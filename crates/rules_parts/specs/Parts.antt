@@ -129,14 +129,24 @@ intervalOf constraints resources factors parameter = record {
   parameter = parameter;
 }
 
--- "Parameter "-" alone is missing and means 100"
-unfoldable pub parameterOf : Line → Option ℤ
-parameterOf l = cond (same (bytes "-\n") l) (some (pos 100)) (single l)
+-- ---- "Parameter "-" alone is missing"; `missing` is what it means then
+unfoldable pub parameterBy : ℤ → Line → Option ℤ
+parameterBy missing l = cond (same (bytes "-\n") l) (some missing) (single l)
 
-unfoldable pub readInterval : Reader Interval
-readInterval =
+unfoldable pub readIntervalBy : ℤ → Reader Interval
+readIntervalBy missing =
     headed "constraint shadow\n" (counted 2) ▷ λ constraints.
     headed "resource lmp dispatch available floor\n" (counted 5) ▷ λ resources.
     headed "resource constraint factor\n" (rows (factorRows (length resources) (length constraints))) ▷ λ factors.
-    headed "parameter\n" (due parameterOf) ▷ λ parameter.
+    headed "parameter\n" (due (parameterBy missing)) ▷ λ parameter.
     found (intervalOf constraints resources factors parameter)
+
+-- paper 02, 2.5: "Missing now means 0"
+abbrev pub missingParameter : ℤ
+missingParameter = pos 0
+
+abbrev pub parameterOf : Line → Option ℤ
+parameterOf = parameterBy missingParameter
+
+abbrev pub readInterval : Reader Interval
+readInterval = readIntervalBy missingParameter

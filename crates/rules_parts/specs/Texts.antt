@@ -143,13 +143,14 @@ outputRow o = o .lmp ∷ o .dispatch ∷ o .available ∷ o .floor ∷ []
 abbrev pub factorRow : GivenFactor → Row
 factorRow f = pos (f .resource) ∷ pos (f .constraint) ∷ f .factor ∷ []
 
--- "Parameter "-" alone is missing and means 100"
+-- "Parameter "-" alone is missing"
 abbrev pub parameterLine : Option ℤ → Line
 parameterLine none = bytes "-\n"
 parameterLine (some z) = lineText (z ∷ [])
 
+-- paper 02, 2.5: "Missing now means 0"
 abbrev pub parameterIs : Option ℤ → ℤ
-parameterIs none = pos 100
+parameterIs none = pos 0
 parameterIs (some z) = z
 
 unfoldable pub intervalLines : GivenInterval → List Line

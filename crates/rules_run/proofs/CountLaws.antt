@@ -9,7 +9,7 @@ use native.Mathlib.Omega.{arith}
 use lib.ListN.{length, length-drop}
 use Rattle.rules_text.specs.Numbers.{Line, Row, bytes, row, same}
 use Rattle.rules_text.specs.Tables.{Reading, faulty, found, Reader, next, _▷_, taken, due, headed, single, ifSuits, hasId, andMore, run, rows, counting, counted, each, grouped, pairs}
-use Rattle.rules_parts.specs.Parts.{openingOf, readOpening, factorRows, intervalOf, parameterOf, readInterval}
+use Rattle.rules_parts.specs.Parts.{openingOf, readOpening, factorRows, intervalOf, parameterOf, readIntervalBy, readInterval}
 
 -- lines ls, before which n stand, are used up to line m, with the lines rest after it; a faulty line is one of them or the one after them
 abbrev pub Uses : {A : Type 0} → ℕ → List Line → Reading A → Type 0
@@ -110,7 +110,7 @@ unfolding factorRows
 factors-few n m = run-few 3 _ _ 0
 
 pub interval-using : Using readInterval
-unfolding readInterval
+unfolding readIntervalBy
 interval-using =
     then-using (headed "constraint shadow\n" (counted 2)) _ (headed-using "constraint shadow\n" (counted 2) (counted-using 2)) λ constraints.
     then-using (headed "resource lmp dispatch available floor\n" (counted 5)) _ (headed-using "resource lmp dispatch available floor\n" (counted 5) (counted-using 5)) λ resources.

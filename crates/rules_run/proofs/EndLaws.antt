@@ -14,12 +14,12 @@ use Rattle.rules_hour.specs.Opened.{openedHour}
 use Rattle.rules_text.specs.Numbers.{Line, lines}
 use Rattle.rules_text.specs.Tables.{Reading, faulty, found}
 use Rattle.rules_parts.specs.Parts.{readOpening, readInterval}
-use Rattle.rules_run.specs.Run.{endedBy, partEnd, answerEnd, intervalsEnd, hourEnd, partsEnd, endOf}
+use Rattle.rules_run.specs.Run.{endedBy, partEnd, answerEnd, intervalsEndBy, intervalsEnd, hourEnd, partsEndBy, partsEnd, endBy, endOf}
 
 -- ---- with the next interval and those after it
 by-part : (f : ℕ) (h : Hour) (n : ℕ) (ls : List Line) → 0 < length ls
     → intervalsEnd (suc f) h n ls ≡ partEnd (readInterval n ls) (λ v m rest. answerEnd m (hourRefusal h v) (intervalsEnd f (hourAfter h v) m rest))
-unfolding intervalsEnd
+unfolding intervalsEndBy
 by-part f h n [] s = absurd (omega (arith, s))
 by-part f h n (l ∷ ls) s = refl
 
@@ -44,14 +44,14 @@ module _ (f : ℕ) (h : Hour) (n : ℕ) (ls : List Line) (some : 0 < length ls) 
 
 -- after the last line nothing is refused
 pub none-end : (f : ℕ) (h : Hour) (n : ℕ) → intervalsEnd f h n [] ≡ endedBy 0 0
-unfolding intervalsEnd
+unfolding intervalsEndBy
 none-end zero h n = refl
 none-end (suc f) h n = refl
 
 -- ---- with the parts of a text
 module _ (ls : List Line) where
   read-parts : (r : Reading Opening) → readOpening 0 ls ≡ r → partsEnd ls ≡ partEnd r (λ o n rest. answerEnd n (openingRefusal o) (hourEnd (openedHour o) n rest))
-  unfolding partsEnd
+  unfolding partsEndBy
   read-parts r e = ap (λ (x : Reading Opening). partEnd x (λ o n rest. answerEnd n (openingRefusal o) (hourEnd (openedHour o) n rest))) e
 
   pub parts-faulty-end : (k : ℕ) → readOpening 0 ls ≡ faulty k → partsEnd ls ≡ endedBy 17 k
@@ -71,9 +71,9 @@ module _ (ls : List Line) where
 -- ---- of a text
 module _ (text : List ℕ) where
   pub too-long-end : 65536 < length text → endOf text ≡ endedBy 18 1
-  unfolding endOf
+  unfolding endBy
   too-long-end h = ap (λ (b : Bool). cond b (endedBy 18 1) (partsEnd (lines text))) (lt-ltb 65536 (length text) h)
 
   pub read-text-end : length text ≤ 65536 → endOf text ≡ partsEnd (lines text)
-  unfolding endOf
+  unfolding endBy
   read-text-end h = ap (λ (b : Bool). cond b (endedBy 18 1) (partsEnd (lines text))) (le-ltb 65536 (length text) h)

@@ -26,10 +26,10 @@ use Rattle.rules_text.specs.Numbers.{bytes, lines, number, magnitude, row}
 use Rattle.rules_text.specs.Tables.{found, headed, due, single, run, rows, counted, grouped, pairs, each}
 use Rattle.rules_text.specs.Offsets.{kept}
 use Rattle.rules_text.specs.Printing.{digits, decimal, lineText, refusalText}
-use Rattle.rules_parts.specs.Parts.{resourcesOf, openingOf, readOpening, isDeclared, isFactor, factorRows, withFactors, intervalOf, parameterOf, readInterval}
+use Rattle.rules_parts.specs.Parts.{resourcesOf, openingOf, readOpening, isDeclared, isFactor, factorRows, withFactors, intervalOf, parameterBy, readIntervalBy, readInterval}
 use Rattle.rules_parts.proofs.Examples.{opening-read, interval-text, reads-interval}
 use Rattle.rules_page.proofs.Examples.{case-T as page-T}
-use Rattle.rules_run.specs.Run.{pageOf, hourText, partsText, output, endedBy, hourEnd, partsEnd, endOf}
+use Rattle.rules_run.specs.Run.{pageOf, hourText, partsTextBy, outputBy, output, endedBy, hourEnd, partsEndBy, endBy, endOf}
 use Rattle.rules_run.proofs.EndLaws.{refused-end, accepted-end, none-end, parts-accepted-end}
 use Rattle.rules_run.proofs.Program.{TheCurve, Page, the-curve, the-page}
 use Rattle.rules_run.proofs.RunLaws.{accepted-text, parts-accepted, none-text}
@@ -73,7 +73,7 @@ some-lines = refl
 
 -- "It prints, whole"
 pub case-T : output text-T ≡ bytes "interval constraint verdict demand left\n1 0 1 10000000000 0\ninterval constraint portfolio withheld\n1 0 0 15000000000\ninterval resource end price\n1 0 15000 300000\n1 0 20000 378402\n1 0 30000 488402\n"
-unfolding output text-T
+unfolding outputBy text-T
 case-T =
     parts-accepted (lines text-T) opening-read 15 (lines (bytes interval-text)) opens-T accepts-opening
     ∙ ap (λ (h : Hour). hourText h 15 (lines (bytes interval-text))) same-hour
@@ -83,7 +83,7 @@ case-T =
 
 -- and nothing is refused
 pub ends-T : endOf text-T ≡ endedBy 0 0
-unfolding endOf text-T
+unfolding endBy text-T
 ends-T =
     parts-accepted-end (lines text-T) opening-read 15 (lines (bytes interval-text)) opens-T accepts-opening
     ∙ ap (λ (h : Hour). hourEnd h 15 (lines (bytes interval-text))) same-hour
@@ -120,22 +120,22 @@ instance-T = record {
 
 -- ---- small broken texts
 pub empty : output [] ≡ bytes "refusal line\n17 1\n"
-unfolding output partsText readOpening headed digits decimal lineText refusalText
+unfolding outputBy partsTextBy readOpening headed digits decimal lineText refusalText
 empty = refl
 
 -- a names line that isn't closed
 pub unclosed : output (bytes "month") ≡ bytes "refusal line\n17 1\n"
-unfolding output partsText readOpening headed digits decimal lineText refusalText
+unfolding outputBy partsTextBy readOpening headed digits decimal lineText refusalText
 unclosed = refl
 
 -- the text ends early: the line after the last
 pub ends-early : output (bytes "month\n25\n") ≡ bytes "refusal line\n17 3\n"
-unfolding output partsText readOpening headed due single row number magnitude digits decimal lineText refusalText
+unfolding outputBy partsTextBy readOpening headed due single row number magnitude digits decimal lineText refusalText
 ends-early = refl
 
 -- each part's text before its values: month 0 is refused only once the part is read
 pub text-first : output (bytes "month\n0\nportfolio seller\n") ≡ bytes "refusal line\n17 4\n"
-unfolding output partsText readOpening headed due single counted rows run row number magnitude digits decimal lineText refusalText
+unfolding outputBy partsTextBy readOpening headed due single counted rows run row number magnitude digits decimal lineText refusalText
 text-first = refl
 
 -- ---- the same as values, and refusals by values: the part's last line
@@ -145,12 +145,12 @@ pub record Ends : Type 0 where
   pub text-before-values : endOf (bytes "month\n0\nportfolio seller\n") ≡ endedBy 17 4
 
 pub ends : Ends
-unfolding endOf partsEnd readOpening headed due single counted rows run row number magnitude
+unfolding endBy partsEndBy readOpening headed due single counted rows run row number magnitude
 ends = record { nothing = refl; early = refl; text-before-values = refl }
 
 -- Case T's opening in month 0: its last line is line 15, whatever follows it
 pub month-0 : endOf (bytes "month\n0\nportfolio seller\n0 1\nresource portfolio start\n0 0 10000\nresource end price\n0 15000 300000\n0 30000 900000\nresource mw heat\n0 10000 10000\n0 20000 9000\n0 30000 9500\nresource gas rate allowance om msc soc fee\n0 40000 0 0 20000 1000 3000 50\nwhatever\n") ≡ endedBy 9 15
-unfolding endOf partsEnd readOpening openingOf resourcesOf headed due single counted rows run grouped pairs each row number magnitude kept padded
+unfolding endBy partsEndBy readOpening openingOf resourcesOf headed due single counted rows run grouped pairs each row number magnitude kept padded
     inRange openingRefusal
 month-0 = refl
 
@@ -179,7 +179,7 @@ unfolding text-101 interval-101 opening-read readOpening openingOf resourcesOf h
 opens-101 = refl
 
 reads-101 : readInterval 15 (lines interval-101) ≡ found with-101 23 []
-unfolding interval-101 readInterval intervalOf factorRows isFactor isDeclared withFactors parameterOf headed due single counted rows run row number magnitude kept padded
+unfolding interval-101 readIntervalBy intervalOf factorRows isFactor isDeclared withFactors parameterBy headed due single counted rows run row number magnitude kept padded
 reads-101 = refl
 
 refuses-101 : hourRefusal (openedHour openingT) with-101 ≡ 15
@@ -196,7 +196,7 @@ unfolding interval-101
 some-101 = refl
 
 pub parameter-101 : endOf text-101 ≡ endedBy 15 23
-unfolding endOf text-101
+unfolding endBy text-101
 parameter-101 =
     parts-accepted-end (lines text-101) opening-read 15 (lines interval-101) opens-101 accepts-opening
     ∙ ap (λ (h : Hour). hourEnd h 15 (lines interval-101)) same-hour

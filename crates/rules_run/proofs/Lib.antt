@@ -7,6 +7,8 @@ pub mod Meaning
 pub mod Course
 pub mod OwnLines
 pub mod RefusedLine
+pub mod WrittenLines
+pub mod Written
 pub mod Examples
 pub mod SoFar
 pub mod Program

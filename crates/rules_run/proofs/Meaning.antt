@@ -16,24 +16,24 @@ use Rattle.rules_text.specs.Numbers.{Line, bytes, lines}
 use Rattle.rules_text.specs.Tables.{Reading, faulty, found}
 use Rattle.rules_text.specs.Printing.{digits, decimal, lineText, refusalText}
 use Rattle.rules_parts.specs.Parts.{readInterval}
-use Rattle.rules_run.specs.Run.{part, answer, pageOf, intervals, partsText, output, pageLeaving}
+use Rattle.rules_run.specs.Run.{part, answer, pageOf, intervalsBy, intervals, partsText, outputBy, output, pageLeaving}
 use Rattle.rules_run.proofs.RunLaws.{accepted-text, accepts-few, accepts-counts}
 
 -- "18 is tested first": whatever else is wrong with a text of over 65,536 bytes
 pub longer-refused : (text : List ℕ) → 65536 < length text → output text ≡ bytes "refusal line\n18 1\n"
-unfolding output digits decimal lineText refusalText
+unfolding outputBy digits decimal lineText refusalText
 longer-refused text h = ap (λ (b : Bool). cond b (refusalText 18 1) (partsText (lines text))) (lt-ltb 65536 (length text) h)
 
 -- a text of 65,536 bytes is read
 pub others-read : (text : List ℕ) → length text ≤ 65536 → output text ≡ partsText (lines text)
-unfolding output
+unfolding outputBy
 others-read text h = ap (λ (b : Bool). cond b (refusalText 18 1) (partsText (lines text))) (le-ltb 65536 (length text) h)
 
 -- one part more or less
 step : (k f i : ℕ) (h : Hour) (n : ℕ) (ls : List Line)
     → ((v : Interval) (m : ℕ) (rest : List Line) → hourRefusal h v ≡ 0 → intervals f (suc i) (hourAfter h v) m rest ≡ intervals k (suc i) (hourAfter h v) m rest)
     → intervals (suc f) i h n ls ≡ intervals (suc k) i h n ls
-unfolding intervals
+unfolding intervalsBy
 step k f i h n [] same = refl
 step k f i h n (l ∷ ls) same = go (readInterval n (l ∷ ls))
   where

@@ -15,7 +15,7 @@ use Rattle.rules_hour.specs.Opened.{openedHour}
 use Rattle.rules_text.specs.Numbers.{Line, lines}
 use Rattle.rules_text.specs.Tables.{Reading, faulty, found, headed}
 use Rattle.rules_text.proofs.LineLaws.{lines-few}
-use Rattle.rules_parts.specs.Parts.{readOpening, readInterval}
+use Rattle.rules_parts.specs.Parts.{readOpening, readIntervalBy, readInterval}
 use Rattle.rules_parts.proofs.FirstFault.{opening-first, interval-first}
 use Rattle.rules_run.specs.Run.{Ended, endedBy, intervalsEnd, endOf}
 use Rattle.rules_run.proofs.CountLaws.{Uses, interval-using}
@@ -61,7 +61,7 @@ clash p q = absurd (let z : _≡_ {A = ℕ} 0 1 = cc in omega arith)
 
 -- no interval is read of no line
 nothing : (n : ℕ) → readInterval n [] ≡ faulty (suc n)
-unfolding readInterval headed
+unfolding readIntervalBy headed
 nothing n = refl
 
 -- lines of which no interval is read are none, or no intervals

@@ -20,7 +20,7 @@ use Rattle.rules_text.specs.Numbers.{Line, bytes, lines}
 use Rattle.rules_text.specs.Tables.{Reading, faulty, found}
 use Rattle.rules_text.specs.Printing.{lineText, refusalText}
 use Rattle.rules_parts.specs.Parts.{readOpening, readInterval}
-use Rattle.rules_run.specs.Run.{part, answer, pageOf, intervals, hourText, partsText, output, Ended, endedBy, partsEnd, endOf, ranWithin, ranTo}
+use Rattle.rules_run.specs.Run.{part, answer, pageOf, intervalsBy, intervals, hourText, partsTextBy, partsText, outputBy, output, Ended, endedBy, partsEnd, endOf, ranWithin, ranTo}
 use Rattle.rules_run.specs.declared.Ran.{Ran}
 use Rattle.rules_run.specs.declared.Ran.the-variants as ran
 use Rattle.rules_run.proofs.CountLaws.{Uses, opening-using}
@@ -53,7 +53,7 @@ refusal-few number line = omega (arith, length-append (bytes "refusal line\n") (
 -- ---- what interval i and those after it print
 pub by-part : (f i : ℕ) (h : Hour) (n : ℕ) (ls : List Line) → 0 < length ls
     → intervals (suc f) i h n ls ≡ part (readInterval n ls) (λ v m rest. answer m (hourRefusal h v) (pageOf i h v ++ intervals f (suc i) (hourAfter h v) m rest))
-unfolding intervals
+unfolding intervalsBy
 by-part f i h n [] s = absurd (let z : _≡_ {A = ℕ} 0 1 = omega (arith, s) in omega arith)
 by-part f i h n (l ∷ ls) s = refl
 
@@ -80,7 +80,7 @@ module _ (f i : ℕ) (h : Hour) (n : ℕ) (ls : List Line) (some : 0 < length ls
 
 -- nothing is left to print after the last line
 pub none-text : (f i : ℕ) (h : Hour) (n : ℕ) → intervals f i h n [] ≡ []
-unfolding intervals
+unfolding intervalsBy
 none-text zero i h n = refl
 none-text (suc f) i h n = refl
 
@@ -97,7 +97,7 @@ module _ (h : Hour) (v : Interval) (g : hourRefusal h v ≡ 0) where
 -- ---- what the parts of a text print
 module _ (ls : List Line) where
   read-parts : (r : Reading Opening) → readOpening 0 ls ≡ r → partsText ls ≡ part r (λ o n rest. answer n (openingRefusal o) (hourText (openedHour o) n rest))
-  unfolding partsText
+  unfolding partsTextBy
   read-parts r e = ap (λ (x : Reading Opening). part x (λ o n rest. answer n (openingRefusal o) (hourText (openedHour o) n rest))) e
 
   pub parts-faulty : (k : ℕ) → readOpening 0 ls ≡ faulty k → partsText ls ≡ refusalText 17 k
@@ -163,14 +163,14 @@ module _ (out text : List ℕ) where
 
     pub too-long : 65536 < length text → (put : List ℕ) (n number line : ℕ)
         → put ≡ sets out 0 (refusalText 18 1) → n ≡ 0 + length (refusalText 18 1) → n ≤ 655424 → endedBy number line ≡ endedBy 18 1 → Ends put n number line
-    unfolding output
+    unfolding outputBy
     too-long h put n number line f g =
         puts (refusalText 18 1) (endedBy 18 1) (ap (λ (b : Bool). cond b (refusalText 18 1) (partsText (lines text))) (lt-ltb 65536 (length text) h)) (too-long-end text h) put n number line f
         (omega (arith, g))
 
     pub ran-parts : length text ≤ 65536 → (put : List ℕ) (n number line : ℕ)
         → put ≡ sets out 0 (partsText (lines text)) → n ≡ length (partsText (lines text)) → n ≤ 655424 → endedBy number line ≡ partsEnd (lines text) → Ends put n number line
-    unfolding output
+    unfolding outputBy
     ran-parts h =
         puts (partsText (lines text)) (partsEnd (lines text)) (ap (λ (b : Bool). cond b (refusalText 18 1) (partsText (lines text))) (le-ltb 65536 (length text) h)) (read-text-end text h)
 

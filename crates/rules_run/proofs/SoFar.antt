@@ -20,7 +20,7 @@ use Rattle.rules_text.specs.Numbers.{Line, Row, bytes, row, same, joined, lines
 use Rattle.rules_text.proofs.LineLaws.{line, lines-some}
 use Rattle.rules_text.proofs.LineLaws.{after as past}
 use Rattle.rules_text.specs.Tables.{Reading, faulty, found, Reader, next, _▷_, taken, due, headed, single, ifSuits, hasId, andMore, run, rows, counted, each, grouped, pairs}
-use Rattle.rules_parts.specs.Parts.{openingOf, readOpening, isFactor, placeOf, factorRows, intervalOf, parameterOf, readInterval}
+use Rattle.rules_parts.specs.Parts.{openingOf, readOpening, isFactor, placeOf, factorRows, intervalOf, parameterOf, readIntervalBy, readInterval}
 use Rattle.rules_run.specs.Run.{pageOf, intervals, hourText, partsText, output}
 use Rattle.rules_run.proofs.RunLaws.{accepted-text, parts-accepted, none-text}
 use Rattle.rules_run.proofs.Meaning.{others-read}
@@ -207,7 +207,7 @@ unfolding factorRows
 factors-stop n m = rows-stop 3 (isFactor n m) (λ i x. suc (placeOf m x)) 0
 
 pub interval-ends : Ending readInterval
-unfolding readInterval headed
+unfolding readIntervalBy headed
 interval-ends =
     stops-then-ends (headed "constraint shadow\n" (counted 2)) _ (headed-stops "constraint shadow\n" (counted 2) (counted-stops 2)) (λ constraints.
     stops-then-ends (headed "resource lmp dispatch available floor\n" (counted 5)) _ (headed-stops "resource lmp dispatch available floor\n" (counted 5) (counted-stops 5)) (λ resources.

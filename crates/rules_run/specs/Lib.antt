@@ -1,2 +1,3 @@
 -- Definitions, in the paper's order. What they mean stands in proofs/.
 pub mod Run
+pub mod Formerly

@@ -4,6 +4,7 @@ use mathlib.Core.List.{List, [], _∷_, _++_}
 use mathlib.Core.Bool.{cond}
 use lib.Dec.{leb, ltb}
 use lib.ListN.{length}
+use lib.IntN.{ℤ}
 use lib.Seq.{sets}
 use Rattle.rules_interval.specs.declared.Interval.{Interval}
 use Rattle.rules_opening.specs.Openings.{openingRefusal}
@@ -14,7 +15,7 @@ use Rattle.rules_path.specs.declared.Verdict.{Verdict}
 use Rattle.rules_text.specs.Numbers.{Line, lines}
 use Rattle.rules_text.specs.Tables.{Reading, faulty, found}
 use Rattle.rules_text.specs.Printing.{refusalText}
-use Rattle.rules_parts.specs.Parts.{readOpening, readInterval}
+use Rattle.rules_parts.specs.Parts.{readOpening, missingParameter, readIntervalBy}
 use Rattle.rules_page.specs.Pages.{pageText}
 use Rattle.rules_run.specs.declared.Ran.{Ran}
 use Rattle.rules_run.specs.declared.Ran.the-variants.{Printed, TooSmall}
@@ -37,24 +38,38 @@ pageLeaving i h m verdicts = pageText i (h .market .resources) (h .rows) (h .sta
 abbrev pub pageOf : ℕ → Hour → Interval → List ℕ
 pageOf i h v = pageLeaving i (hourAfter h v) (v .constraints) (hourVerdicts h v)
 
+-- ---- what is printed where a missing parameter means `missing`
 -- interval i and those after it, "from none on", each printed before the next is read; at most f of them
-unfoldable pub intervals : ℕ → ℕ → Hour → ℕ → List Line → List ℕ
-intervals zero i h n ls = []
-intervals (suc f) i h n [] = []
-intervals (suc f) i h n (l ∷ ls) =
-    part (readInterval n (l ∷ ls)) (λ v m rest. answer m (hourRefusal h v) (pageOf i h v ++ intervals f (suc i) (hourAfter h v) m rest))
+unfoldable pub intervalsBy : ℤ → ℕ → ℕ → Hour → ℕ → List Line → List ℕ
+intervalsBy missing zero i h n ls = []
+intervalsBy missing (suc f) i h n [] = []
+intervalsBy missing (suc f) i h n (l ∷ ls) =
+    part (readIntervalBy missing n (l ∷ ls)) (λ v m rest. answer m (hourRefusal h v) (pageOf i h v ++ intervalsBy missing f (suc i) (hourAfter h v) m rest))
 
 -- the intervals of an opened hour: it accepts four, so that a fifth part is refused and there is no sixth
-abbrev pub hourText : Hour → ℕ → List Line → List ℕ
-hourText h n ls = intervals 5 1 h n ls
+abbrev pub hourTextBy : ℤ → Hour → ℕ → List Line → List ℕ
+hourTextBy missing h n ls = intervalsBy missing 5 1 h n ls
 
 -- the parts of a text: the opening, and then its intervals
-unfoldable pub partsText : List Line → List ℕ
-partsText ls = part (readOpening 0 ls) (λ o n rest. answer n (openingRefusal o) (hourText (openedHour o) n rest))
+unfoldable pub partsTextBy : ℤ → List Line → List ℕ
+partsTextBy missing ls = part (readOpening 0 ls) (λ o n rest. answer n (openingRefusal o) (hourTextBy missing (openedHour o) n rest))
 
--- what the program prints for a text: "18 is tested first"
-unfoldable pub output : List ℕ → List ℕ
-output text = cond (ltb 65536 (length text)) (refusalText 18 1) (partsText (lines text))
+-- a whole text: "18 is tested first"
+unfoldable pub outputBy : ℤ → List ℕ → List ℕ
+outputBy missing text = cond (ltb 65536 (length text)) (refusalText 18 1) (partsTextBy missing (lines text))
+
+-- ---- what the program prints
+abbrev pub intervals : ℕ → ℕ → Hour → ℕ → List Line → List ℕ
+intervals = intervalsBy missingParameter
+
+abbrev pub hourText : Hour → ℕ → List Line → List ℕ
+hourText = hourTextBy missingParameter
+
+abbrev pub partsText : List Line → List ℕ
+partsText = partsTextBy missingParameter
+
+abbrev pub output : List ℕ → List ℕ
+output = outputBy missingParameter
 
 -- ---- how a run ends, as values
 -- the number of the refusal and its line; 0 and 0 where nothing is refused
@@ -76,20 +91,33 @@ answerEnd n zero later = later
 answerEnd n (suc number) later = endedBy (suc number) n
 
 -- with the next interval and those after it; at most f of them
-unfoldable pub intervalsEnd : ℕ → Hour → ℕ → List Line → Ended
-intervalsEnd zero h n ls = endedBy 0 0
-intervalsEnd (suc f) h n [] = endedBy 0 0
-intervalsEnd (suc f) h n (l ∷ ls) = partEnd (readInterval n (l ∷ ls)) (λ v m rest. answerEnd m (hourRefusal h v) (intervalsEnd f (hourAfter h v) m rest))
+unfoldable pub intervalsEndBy : ℤ → ℕ → Hour → ℕ → List Line → Ended
+intervalsEndBy missing zero h n ls = endedBy 0 0
+intervalsEndBy missing (suc f) h n [] = endedBy 0 0
+intervalsEndBy missing (suc f) h n (l ∷ ls) =
+    partEnd (readIntervalBy missing n (l ∷ ls)) (λ v m rest. answerEnd m (hourRefusal h v) (intervalsEndBy missing f (hourAfter h v) m rest))
 
-abbrev pub hourEnd : Hour → ℕ → List Line → Ended
-hourEnd h n ls = intervalsEnd 5 h n ls
+abbrev pub hourEndBy : ℤ → Hour → ℕ → List Line → Ended
+hourEndBy missing h n ls = intervalsEndBy missing 5 h n ls
 
-unfoldable pub partsEnd : List Line → Ended
-partsEnd ls = partEnd (readOpening 0 ls) (λ o n rest. answerEnd n (openingRefusal o) (hourEnd (openedHour o) n rest))
+unfoldable pub partsEndBy : ℤ → List Line → Ended
+partsEndBy missing ls = partEnd (readOpening 0 ls) (λ o n rest. answerEnd n (openingRefusal o) (hourEndBy missing (openedHour o) n rest))
 
 -- how the run of a text ends
-unfoldable pub endOf : List ℕ → Ended
-endOf text = cond (ltb 65536 (length text)) (endedBy 18 1) (partsEnd (lines text))
+unfoldable pub endBy : ℤ → List ℕ → Ended
+endBy missing text = cond (ltb 65536 (length text)) (endedBy 18 1) (partsEndBy missing (lines text))
+
+abbrev pub intervalsEnd : ℕ → Hour → ℕ → List Line → Ended
+intervalsEnd = intervalsEndBy missingParameter
+
+abbrev pub hourEnd : Hour → ℕ → List Line → Ended
+hourEnd = hourEndBy missingParameter
+
+abbrev pub partsEnd : List Line → Ended
+partsEnd = partsEndBy missingParameter
+
+abbrev pub endOf : List ℕ → Ended
+endOf = endBy missingParameter
 
 -- what it prints last: "the line `refusal line`, then a line of the two values"
 abbrev pub lastLines : ℕ → ℕ → List ℕ

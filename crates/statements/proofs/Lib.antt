@@ -18,3 +18,4 @@ pub mod Passes
 pub mod HourBids
 pub mod Runs
 pub mod Programs
+pub mod Missing

@@ -68,7 +68,7 @@ pub opening-values : (o : GivenOpening)
 unfolding openingIs
 opening-values o = (refl, refl, refl, refl, (_, refl))
 
--- ---- an interval's four tables: "Parameter "-" alone is missing and means 100"
+-- ---- an interval's four tables: "Parameter "-" alone is missing", and by paper 02, 2.5, "Missing now means 0"
 pub interval-tables : (i : GivenInterval) → (line : Line) → (i .parameter ≡ none → line ≡ bytes "-\n") → ((z : ℤ) → i .parameter ≡ some z → line ≡ lineText (z ∷ []))
     → intervalLines i
     ≡ table (bytes "constraint shadow\n") (countedRows (λ s. s ∷ []) 0 (i .shadows))
@@ -90,7 +90,7 @@ pub interval-values : (i : GivenInterval)
     × (intervalIs i .dispatch ≡ padded 64 (pos 0) (map (λ x. x .dispatch) (i .outputs)))
     × (intervalIs i .available ≡ padded 64 (pos 0) (map (λ x. x .available) (i .outputs)))
     × (intervalIs i .floor ≡ padded 64 (pos 0) (map (λ x. x .floor) (i .outputs)))
-    × (i .parameter ≡ none → intervalIs i .parameter ≡ pos 100)
+    × (i .parameter ≡ none → intervalIs i .parameter ≡ pos 0)
     × ((z : ℤ) → i .parameter ≡ some z → intervalIs i .parameter ≡ z)
 unfolding intervalIs
 interval-values i = (refl, refl, refl, refl, refl, refl, refl, (λ e. ap parameterIs e), λ z e. ap parameterIs e)

@@ -58,6 +58,10 @@ fn print(coverage: &Coverage) {
     println!("components below 0 {}", coverage.components_negative);
     println!("prices below 0 {}", coverage.prices_negative);
     println!("parameters missing {}", coverage.parameters_missing);
+    println!(
+        "texts where a missing parameter decides {}",
+        coverage.missing_deciding
+    );
     print_list("texts by bytes", 65_535, &coverage.sizes);
     println!(
         "texts of 65,536 bytes accepted whole {}",

@@ -32,7 +32,7 @@ returns c =
     let l = c .before .before .before in
     let a = l .before .before .before .args in (
       c .value-at .ensures .0
-          ∙ sym (parameter-there (a .n) (lines (drop (a .at) (a .s .now))) (a .n + 1) (not-headed "-\n" (found (pos 100)) (a .n) (a .s .now) (a .at) refl (sym (c .before .enum-told .given .1) ∙ l .line-is .ensures))),
+          ∙ sym (parameter-there (a .n) (lines (drop (a .at) (a .s .now))) (a .n + 1) (not-headed "-\n" (found (pos 0)) (a .n) (a .s .now) (a .at) refl (sym (c .before .enum-told .given .1) ∙ l .line-is .ensures))),
       c .value-at .ensures .1,
     )
 
@@ -46,7 +46,7 @@ returns-2 c =
     let a = l .before .before .before .args in
     let e = sym (k .next .given .1) ∙ l .line-is .ensures in (
       sym (parameter-missing (a .n) (lines (drop (a .at) (a .s .now))) (a .n + 1) (lines (drop (k .next .given .0 .0) (a .s .now)))
-          (past-names "-\n" (found (pos 100)) (a .n) (a .s .now) (a .at) refl (k .next .given .0 .0) e)),
+          (past-names "-\n" (found (pos 0)) (a .n) (a .s .now) (a .at) refl (k .next .given .0 .0) e)),
       used-names "-\n" (a .s .now) (a .n) (a .at) refl (k .next .given .0 .0) e .offset,
     )
 
