@@ -38,8 +38,8 @@ extern "C" {
 #define NOSKJERF_TOLD 2
 
 /* How many numbers the two buffers of noskjerf_default have to have. */
-#define NOSKJERF_EDGES 12
-#define NOSKJERF_PRICES 10
+#define NOSKJERF_EDGES 13
+#define NOSKJERF_PRICES 11
 
 /* How many numbers the charges of noskjerf_default are. */
 #define NOSKJERF_CHARGES 7
@@ -92,7 +92,7 @@ uint64_t noskjerf_bid(uint64_t month, int64_t start, size_t count, const int64_t
  * allowance, om, msc, soc and fee, in this order.
  *
  * Answers 0 and fills the buffers:
- *   edges[0]                how many steps the curve has, 1 to 10
+ *   edges[0]                how many steps the curve has, 1 to 11
  *   edges[1]                where it starts
  *   edges[2] and after it   the end of each step
  *   prices[0] and after it  the price of each step

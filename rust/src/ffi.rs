@@ -33,6 +33,10 @@ pub fn run(text: &[u8], page: &mut [u8], told: &mut [u64; 2]) -> Option<usize> {
 
 #[cfg(feature = "judgements")]
 mod judgements {
+    /// How many numbers the two buffers of `default` have: how many steps, the start and eleven ends; eleven prices.
+    pub const EDGES: usize = 2 + PRICES;
+    pub const PRICES: usize = 11;
+
     extern "C" {
         fn noskjerf_bid(month: u64, start: i64, count: usize, steps: *const i64, steps_len: usize) -> u64;
 
@@ -56,7 +60,7 @@ mod judgements {
     }
 
     /// The refusal of costs whose points hold mw and heat in turn; or 0, and the buffers filled.
-    pub fn default(count: usize, points: &[i64], charges: &[i64; 7], edges: &mut [u64; 12], prices: &mut [i64; 10]) -> i64 {
+    pub fn default(count: usize, points: &[i64], charges: &[i64; 7], edges: &mut [u64; EDGES], prices: &mut [i64; PRICES]) -> i64 {
         // SAFETY: each pointer comes with the length of its slice
         unsafe {
             noskjerf_default(
@@ -75,4 +79,4 @@ mod judgements {
 }
 
 #[cfg(feature = "judgements")]
-pub use judgements::{bid, default};
+pub use judgements::{bid, default, EDGES, PRICES};

@@ -76,7 +76,7 @@ pub struct Charges {
 pub struct DefaultCurve {
     /// Where the curve starts, in hundredths of a MW.
     pub start: i64,
-    /// Its steps, 1 to 10 of them.
+    /// Its steps, 1 to 11 of them.
     pub steps: Vec<Step>,
 }
 
@@ -108,8 +108,8 @@ pub fn default_curve(points: &[Point], charges: &Charges) -> Result<DefaultCurve
         fee,
     } = *charges;
     let charges = [gas, rate, allowance, om, msc, soc, fee];
-    let mut edges = [0; 12];
-    let mut prices = [0; 10];
+    let mut edges = [0; ffi::EDGES];
+    let mut prices = [0; ffi::PRICES];
     let answer = ffi::default(points.len(), &numbers, &charges, &mut edges, &mut prices);
     refused_or_not(u64::try_from(answer).expect("the buffers have the room that the engine asks for"))?;
     Ok(curve(&edges, &prices))
@@ -124,9 +124,9 @@ fn refused_or_not(answer: u64) -> Result<(), Refused> {
 }
 
 /// The curve in buffers that the engine filled: how many steps, the start, the ends; and the prices.
-fn curve(edges: &[u64; 12], prices: &[i64; 10]) -> DefaultCurve {
+fn curve(edges: &[u64; ffi::EDGES], prices: &[i64; ffi::PRICES]) -> DefaultCurve {
     let [steps, start, ends @ ..] = edges.map(|edge| i64::try_from(edge).expect("an edge is at most 1,000,000"));
-    let steps = usize::try_from(steps).expect("a curve has at most 10 steps");
+    let steps = usize::try_from(steps).expect("a curve has at most 11 steps");
     let rows = ends.iter().zip(prices).take(steps);
     DefaultCurve {
         start,

@@ -100,7 +100,7 @@ pub struct Seller {
 pub struct Curve {
     /// The resource.
     pub resource: usize,
-    /// The steps, 1 to 19 of them; ends and prices rise.
+    /// The steps, 1 to 20 of them; ends and prices rise.
     pub steps: Vec<Step>,
 }
 

@@ -10,7 +10,7 @@ use lib.ListN.{set}
 use Rattle.rules_number.specs.Order.{maxZ, natOf}
 use Rattle.rules_number.specs.Over.{allTo, listed, padded}
 use Rattle.rules_number.proofs.OverLaws.{listed-length, padded-next, all-next, all-fails}
-use Rattle.rules_curve.specs.Curves.{stepTo, blankStep}
+use Rattle.rules_curve.specs.Curves.{mostSteps, stepTo, blankStep}
 use Rattle.rules_curve.specs.declared.Step.{Step}
 use Rattle.rules_curve.specs.declared.Curve.{Curve}
 use Rattle.rules_cost.specs.Costs.{pointAt, mwAt, stepCount, width, rateAt, withAdder, stepPrice, raisedPrice, largestRate, costStep, costCurve, rateInRange, pointsGood, mwGood, pricesInRange, ratesGood}
@@ -27,9 +27,9 @@ pub record Stepped (c : Costs) (from : Point) (M p : ℤ) (steps : List Step) (i
   pub rates : allTo (λ j. rateInRange (rateAt c j)) i ≡ true
   pub largest : M ≡ highestFrom (negℤ (pos 100000)) (rateAt c) i
   pub price : p ≡ highestFrom (negℤ (pos 1000000000)) (stepPrice c) i
-  pub stored : steps ≡ padded 10 blankStep (listed (costStep c) i)
+  pub stored : steps ≡ padded mostSteps blankStep (listed (costStep c) i)
 
-pub before-steps : (c : Costs) → Stepped c (pointAt c 0) (negℤ (pos 100000)) (negℤ (pos 1000000000)) (padded 10 blankStep (listed (costStep c) 0)) 0
+pub before-steps : (c : Costs) → Stepped c (pointAt c 0) (negℤ (pos 100000)) (negℤ (pos 1000000000)) (padded mostSteps blankStep (listed (costStep c) 0)) 0
 unfolding allTo highestFrom
 before-steps c = record { short = omega arith; reached = refl; rates = refl; largest = refl; price = refl; stored = refl }
 
@@ -72,7 +72,7 @@ module _ (c : Costs) (points : pointsGood c ≡ true) (quantities : mwGood c ≡
           rates = rates';
           largest = rw (add-one i) largest';
           price = rw (add-one i) price';
-          stored = rw (done .stored, e-is, raised-is, add-one i) (padded-next 10 blankStep (costStep c) i (omega arith));
+          stored = rw (done .stored, e-is, raised-is, add-one i) (padded-next mostSteps blankStep (costStep c) i (omega arith));
         }
     -- or R is out of range
 

@@ -12,7 +12,7 @@ ghost use Prim.Native.Nat.{_≤_, _<_};
 ghost use Rattle.rules_number.specs.Order.{natOf};
 ghost use Rattle.rules_curve.specs.Refusals.{outcomeNumber, unless};
 ghost use Rattle.rules_curve.specs.Curves.{unlessRefused};
-ghost use Rattle.rules_cost.specs.Costs.{mwInRange, heatInRange, rateInRange, incrementalRate, withAdder, costCurve, pointsGood, mwGood, heatGood, chargesInRange, pricesInRange, ratesGood, costRefusal};
+ghost use Rattle.rules_cost.specs.Costs.{mostPoints, mwInRange, heatInRange, rateInRange, incrementalRate, withAdder, costCurve, pointsGood, mwGood, heatGood, chargesInRange, pricesInRange, ratesGood, costRefusal};
 
 // R, the incremental heat rate from this point to the next, after the 80% limit.
 fn incremental_rate(from: Point, next: Point, pmax: i64) -> i64
@@ -31,7 +31,7 @@ fn incremental_rate(from: Point, next: Point, pmax: i64) -> i64
 
 // Whether each quantity is in range and above the one before it; any in range is above -1.
 fn quantities_good(costs: Costs) -> bool
-    requires { ⌜ costs .count ≤ 11 ⌝ }
+    requires { ⌜ costs .count ≤ mostPoints ⌝ }
     ensures { λ r. ⌜ r ≡ mwGood costs ⌝ }
 {
     let n = costs.count;
@@ -54,7 +54,7 @@ fn quantities_good(costs: Costs) -> bool
 
 // Whether each average heat rate is in range.
 fn heats_good(costs: Costs) -> bool
-    requires { ⌜ costs .count ≤ 11 ⌝ }
+    requires { ⌜ costs .count ≤ mostPoints ⌝ }
     ensures { λ r. ⌜ r ≡ heatGood costs ⌝ }
 {
     let n = costs.count;

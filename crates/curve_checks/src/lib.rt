@@ -3,7 +3,7 @@ ghost use mathlib.Core.Path.{_≡_};
 ghost use Prim.Native.Nat.{_≤_};
 ghost use lib.ListN.{length};
 ghost use Rattle.rules_curve.specs.Refusals.{outcomeNumber};
-ghost use Rattle.rules_curve.specs.Curves.{rawSteps, stepOf, curveOf, edgesGood, pricesGood, curveRefusal, checkedCurve, bidRefusal, checkedBid, defaultRefusal, checkedDefault};
+ghost use Rattle.rules_curve.specs.Curves.{mostSteps, rawSteps, stepOf, curveOf, edgesGood, pricesGood, curveRefusal, checkedCurve, bidRefusal, checkedBid, defaultRefusal, checkedDefault};
 use rules_curve::Checked;
 use rules_curve::Curve;
 use rules_curve::Outcome;
@@ -24,7 +24,7 @@ fn settled_step(step: RawStep) -> Step
 
 // How many steps count: at most as many as there is room for.
 fn raw_used(raw: RawCurve) -> usize
-    ensures { λ r. ⌜ (r ≡ length (rawSteps raw)) × (r ≤ 10) ⌝ }
+    ensures { λ r. ⌜ (r ≡ length (rawSteps raw)) × (r ≤ mostSteps) ⌝ }
 {
     let n = raw.count;
     if n < Curve::MAX_STEPS {
@@ -101,16 +101,16 @@ fn settled(raw: RawCurve) -> Curve
     }
 }
 
-// The curve with prices from low to top, or the lowest of refusals 1 to 3 that applies.
-pub fn checked(raw: RawCurve, low: i64, top: i64) -> Checked
-    ensures number { λ r. ⌜ outcomeNumber (r .outcome) ≡ curveRefusal low top raw ⌝ }
-    ensures curve { λ r. ⌜ r .curve ≡ checkedCurve low top raw ⌝ }
+// The curve of so many steps at most, with prices from low to top, or the lowest of refusals 1 to 3 that applies.
+pub fn checked(raw: RawCurve, most: usize, low: i64, top: i64) -> Checked
+    ensures number { λ r. ⌜ outcomeNumber (r .outcome) ≡ curveRefusal most low top raw ⌝ }
+    ensures curve { λ r. ⌜ r .curve ≡ checkedCurve most low top raw ⌝ }
 {
     let n = raw.count;
     if n == 0 {
         return curve::refused(Refusal::StepCount);
     }
-    if Curve::MAX_STEPS < n {
+    if most < n {
         return curve::refused(Refusal::StepCount);
     }
     if !edges_good(raw) {
@@ -131,7 +131,12 @@ pub fn checked_bid(raw: RawCurve, month: u64) -> Checked
     ensures number { λ r. ⌜ outcomeNumber (r .outcome) ≡ bidRefusal month raw ⌝ }
     ensures curve { λ r. ⌜ r .curve ≡ checkedBid month raw ⌝ }
 {
-    checked(raw, Curve::LOWEST_BID, curve::highest_bid(month))
+    checked(
+        raw,
+        Curve::MAX_BID_STEPS,
+        Curve::LOWEST_BID,
+        curve::highest_bid(month),
+    )
 }
 
 // A default curve from a pack.
@@ -139,5 +144,10 @@ pub fn checked_default(raw: RawCurve) -> Checked
     ensures number { λ r. ⌜ outcomeNumber (r .outcome) ≡ defaultRefusal raw ⌝ }
     ensures curve { λ r. ⌜ r .curve ≡ checkedDefault raw ⌝ }
 {
-    checked(raw, Curve::LOWEST_DEFAULT, Curve::HIGHEST_DEFAULT)
+    checked(
+        raw,
+        Curve::MAX_STEPS,
+        Curve::LOWEST_DEFAULT,
+        Curve::HIGHEST_DEFAULT,
+    )
 }

@@ -13,7 +13,7 @@ use Rattle.rules_number.specs.Order.{eqZ}
 use Rattle.rules_number.specs.Over.{padded}
 use Rattle.rules_number.proofs.OverLaws.{padded-more}
 use Rattle.rules_curve.specs.Curves.{stepTo, blankStep}
-use Rattle.rules_mitigation.specs.Mitigation.{segmentsN, segments, joined, joinedAfter, mitigatedOf}
+use Rattle.rules_mitigation.specs.Mitigation.{mostMitigatedSteps, segmentsN, segments, joined, joinedAfter, mitigatedOf}
 use Rattle.rules_mitigation.proofs.SegmentLaws.{segments-skip, segments-default, segments-bid, joined-same, joined-other}
 use Rattle.rules_curve.specs.declared.Step.{Step}
 use Rattle.rules_mitigation.specs.declared.Mitigated.{Mitigated}
@@ -28,11 +28,11 @@ pub record Walked (f : ℤ → ℤ → ℤ) (bs ds : List Step) (start : ℕ) (s
   pub few : n ≤ i + j
   pub in-bid : i ≤ length bs
   pub in-default : j ≤ length ds
-  pub held : steps ≡ padded 19 blankStep done
+  pub held : steps ≡ padded mostMitigatedSteps blankStep done
   pub left : done ++ restOf f bs ds at i j ≡ segments f start bs ds
 
 module _ (f : ℤ → ℤ → ℤ) (bs ds : List Step) (start : ℕ) where
-  pub walked-start : Walked f bs ds start (replicate 19 blankStep) start 0 0 0
+  pub walked-start : Walked f bs ds start (replicate mostMitigatedSteps blankStep) start 0 0 0
   unfolding padded
   walked-start = record { done = []; counted = refl; few = omega arith; in-bid = omega arith; in-default = omega arith; held = refl; left = rw (sub-zero, sub-zero) }
 
@@ -60,7 +60,7 @@ module _ (f : ℤ → ℤ → ℤ) (bs ds : List Step) (start : ℕ) where
       left = ap (λ (l : List Step). w .done ++ l) (sym (rw (one, opened, opened′) (segments-skip f _ at _ _ _ _ h))) ∙ w .left;
     }
 
-    module _ (few : n < 19) (p : ℤ) (is : p ≡ f (b .price) (d .price)) (h : at < d .end) where
+    module _ (few : n < mostMitigatedSteps) (p : ℤ) (is : p ≡ f (b .price) (d .price)) (h : at < d .end) where
       pub walked-default : d .end < b .end → Walked f bs ds start (set steps n (stepTo (d .end) p)) (d .end) i (j + 1) (n + 1)
       walked-default k = record {
         done = w .done ++ (stepTo (d .end) p ∷ []);
@@ -68,7 +68,7 @@ module _ (f : ℤ → ℤ → ℤ) (bs ds : List Step) (start : ℕ) where
         few = omega arith;
         in-bid = omega arith;
         in-default = omega arith;
-        held = rw (w .held) (padded-more 19 blankStep (w .done) n _ (w .counted) few);
+        held = rw (w .held) (padded-more mostMitigatedSteps blankStep (w .done) n _ (w .counted) few);
         left = append-assoc (w .done) _ _ ∙ rw is (ap (λ (l : List Step). w .done ++ l) (sym (rw (one, opened, opened′) (segments-default f _ at _ _ _ _ h k))) ∙ w .left);
       }
 
@@ -79,7 +79,7 @@ module _ (f : ℤ → ℤ → ℤ) (bs ds : List Step) (start : ℕ) where
         few = omega arith;
         in-bid = omega arith;
         in-default = omega arith;
-        held = rw (w .held) (padded-more 19 blankStep (w .done) n _ (w .counted) few);
+        held = rw (w .held) (padded-more mostMitigatedSteps blankStep (w .done) n _ (w .counted) few);
         left = append-assoc (w .done) _ _ ∙ rw is (ap (λ (l : List Step). w .done ++ l) (sym (rw (one′, opened, opened′) (segments-bid f _ at _ _ _ _ h k))) ∙ w .left);
       }
 
@@ -116,10 +116,10 @@ pub record Joining (l : List Step) (steps : List Step) (last : Step) (i n : ℕ)
   pub counted : length done ≡ n
   pub few : n < i
   pub within : i ≤ length l
-  pub held : steps ≡ padded 19 blankStep done
+  pub held : steps ≡ padded mostMitigatedSteps blankStep done
   pub left : done ++ joinedAfter last (drop i l) ≡ joined l
 
-pub joining-start : (l : List Step) (e last : Step) → 0 < length l → getD l 0 e ≡ last → Joining l (replicate 19 blankStep) last 1 0
+pub joining-start : (l : List Step) (e last : Step) → 0 < length l → getD l 0 e ≡ last → Joining l (replicate mostMitigatedSteps blankStep) last 1 0
 unfolding joined padded
 joining-start [] e last h x = absurd (omega arith)
 joining-start (s ∷ l) e last h x = record { done = []; counted = refl; few = omega arith; within = omega arith; held = refl; left = rw x }
@@ -139,19 +139,19 @@ module _ (l steps : List Step) (last : Step) (i n : ℕ) (w : Joining l steps la
       left = ap (λ (t : List Step). w .done ++ t) (sym (rw next (joined-same last s _ x))) ∙ w .left;
     }
 
-    pub joining-other : eqZ (last .price) (s .price) ≡ false → n < 19 → Joining l (set steps n last) s (i + 1) (n + 1)
+    pub joining-other : eqZ (last .price) (s .price) ≡ false → n < mostMitigatedSteps → Joining l (set steps n last) s (i + 1) (n + 1)
     joining-other x few = record {
       done = w .done ++ (last ∷ []);
       counted = length-append (w .done) _ ∙ ap (λ (m : ℕ). m + 1) (w .counted);
       few = omega arith;
       within = omega arith;
-      held = rw (w .held) (padded-more 19 blankStep (w .done) n _ (w .counted) few);
+      held = rw (w .held) (padded-more mostMitigatedSteps blankStep (w .done) n _ (w .counted) few);
       left = append-assoc (w .done) _ _ ∙ ap (λ (t : List Step). w .done ++ t) (sym (rw next (joined-other last s _ x))) ∙ w .left;
     }
 
-  pub joining-end : (start : ℕ) → length l ≤ i → n < 19 → _≡_ {A = Mitigated} (record { start = start; count = n + 1; steps = set steps n last }) (mitigatedOf start (joined l))
+  pub joining-end : (start : ℕ) → length l ≤ i → n < mostMitigatedSteps → _≡_ {A = Mitigated} (record { start = start; count = n + 1; steps = set steps n last }) (mitigatedOf start (joined l))
   unfolding joinedAfter
-  joining-end start h few = rw (← whole, w .held, padded-more 19 blankStep (w .done) n last (w .counted) few, counts)
+  joining-end start h few = rw (← whole, w .held, padded-more mostMitigatedSteps blankStep (w .done) n last (w .counted) few, counts)
     where
       whole : w .done ++ (last ∷ []) ≡ joined l
       whole = ap (λ (t : List Step). w .done ++ joinedAfter last t) (sym (drop-of-length-le l h)) ∙ w .left

@@ -2,9 +2,9 @@
 ghost use mathlib.Core.Path.{_≡_};
 ghost use Prim.Native.Nat.{_≤_};
 ghost use lib.ListN.{length};
-ghost use Rattle.rules_curve.specs.Curves.{stepsOf, quote};
+ghost use Rattle.rules_curve.specs.Curves.{stepsOf, bidSteps, quote};
 ghost use Rattle.rules_mitigation.specs.Mitigation.{lowered as loweredBy};
-ghost use Rattle.rules_mitigation.specs.Mitigation.{usedSteps, capped, segments, joined, mitigatedOf, mitigated};
+ghost use Rattle.rules_mitigation.specs.Mitigation.{mostMitigatedSteps, usedSteps, capped, segments, joined, mitigatedOf, mitigated};
 use rules_curve::Curve;
 use rules_curve::Quote;
 use rules_curve::Step;
@@ -36,9 +36,9 @@ pub fn lowered(floor: FloorPrice, cut: FloorPrice) -> FloorPrice
 
 // The bid, divided where a default step ends, each part at its cut price.
 fn divided(bid: Curve, default: Curve, floor: FloorPrice) -> Mitigated
-    ensures { λ r. ⌜ r ≡ mitigatedOf (bid .start) (segments (capped floor) (bid .start) (stepsOf bid) (stepsOf default)) ⌝ }
+    ensures { λ r. ⌜ r ≡ mitigatedOf (bid .start) (segments (capped floor) (bid .start) (bidSteps bid) (stepsOf default)) ⌝ }
 {
-    let nb = curve::used(bid);
+    let nb = curve::bid_used(bid);
     let nd = curve::used(default);
     let start = bid.start;
     let mut steps = [Step { end: 0, price: 0 }; Mitigated::MAX_STEPS];
@@ -82,7 +82,7 @@ fn divided(bid: Curve, default: Curve, floor: FloorPrice) -> Mitigated
 
 // How many steps count: at most as many as there is room for.
 fn used(curve: Mitigated) -> usize
-    ensures { λ r. ⌜ (r ≡ length (usedSteps curve)) × (r ≤ 19) ⌝ }
+    ensures { λ r. ⌜ (r ≡ length (usedSteps curve)) × (r ≤ mostMitigatedSteps) ⌝ }
 {
     let n = curve.count;
     if n < Mitigated::MAX_STEPS {

@@ -13,7 +13,7 @@ use Rattle.rules_curve.specs.Curves.{unlessRefused}
 use Rattle.rules_curve.specs.declared.Curve.{Curve}
 use Rattle.rules_cost.specs.Costs.{costRefusal, costCurve}
 use Rattle.rules_cost.specs.declared.Costs.{Costs}
-use Rattle.rules_library.specs.Slices.{edgesOf, pricesOf, hasRoom, defaultAnswer, ifWritten, edgesAfter, pricesAfter}
+use Rattle.rules_library.specs.Slices.{edgeCount, priceCount, edgesOf, pricesOf, hasRoom, defaultAnswer, ifWritten, edgesAfter, pricesAfter}
 
 module _ (edges : List ℕ) (prices : List ℤ) (c : Costs) where
   -- the answer and the two slices are as they should be
@@ -32,19 +32,19 @@ module _ (edges : List ℕ) (prices : List ℤ) (c : Costs) where
   unfolding defaultAnswer
   by-room b h = ap (λ (t : Bool). cond t (pos (costRefusal c)) (negsuc 0)) h
 
-  pub few-edges : length edges < 12 → Answered (negsuc 0) edges prices
-  few-edges h = answered (negsuc 0) (by-room _ (ap (λ (b : Bool). b && leb 10 (length prices)) (lt-leb 12 (length edges) h)))
+  pub few-edges : length edges < edgeCount → Answered (negsuc 0) edges prices
+  few-edges h = answered (negsuc 0) (by-room _ (ap (λ (b : Bool). b && leb priceCount (length prices)) (lt-leb edgeCount (length edges) h)))
 
-  module _ (h : 12 ≤ length edges) where
-    room : (b : Bool) → leb 10 (length prices) ≡ b → hasRoom edges prices ≡ b
-    room b e = ap (λ (t : Bool). t && leb 10 (length prices)) (le-leb 12 (length edges) h) ∙ e
+  module _ (h : edgeCount ≤ length edges) where
+    room : (b : Bool) → leb priceCount (length prices) ≡ b → hasRoom edges prices ≡ b
+    room b e = ap (λ (t : Bool). t && leb priceCount (length prices)) (le-leb edgeCount (length edges) h) ∙ e
 
-    pub few-prices : length prices < 10 → Answered (negsuc 0) edges prices
-    few-prices k = answered (negsuc 0) (by-room _ (room _ (lt-leb 10 (length prices) k)))
+    pub few-prices : length prices < priceCount → Answered (negsuc 0) edges prices
+    few-prices k = answered (negsuc 0) (by-room _ (room _ (lt-leb priceCount (length prices) k)))
 
-    module _ (k : 10 ≤ length prices) where
+    module _ (k : priceCount ≤ length prices) where
       number : (n : ℕ) → costRefusal c ≡ n → defaultAnswer edges prices c ≡ pos n
-      number n e = by-room _ (room _ (le-leb 10 (length prices) k)) ∙ ap pos e
+      number n e = by-room _ (room _ (le-leb priceCount (length prices) k)) ∙ ap pos e
 
       pub refused : (n : ℕ) → 0 < n → costRefusal c ≡ n → Answered (pos n) edges prices
       refused zero l e = absurd (omega arith)

@@ -10,19 +10,19 @@ ghost use lib.Seq.{sets};
 ghost use Rattle.rules_curve.specs.Curves.{bidRefusal};
 ghost use Rattle.rules_run.specs.Run.{output, endOf, ranWithin, ranTo, runRoom};
 ghost use Rattle.rules_library.specs.Answers.{ranNumber, toldAnswer, toldPage, toldAfter};
-ghost use Rattle.rules_library.specs.Slices.{rawBid, costsIn, defaultAnswer, edgesAfter, pricesAfter, edgesOf, pricesOf};
+ghost use Rattle.rules_library.specs.Slices.{edgeCount, priceCount, rawBid, costsIn, defaultAnswer, edgesAfter, pricesAfter, edgesOf, pricesOf};
 
 // How many numbers the slices lent to noskjerf_default have to have: the number of steps, the start and the ends of a curve, and its prices.
-const EDGES: usize = 12;
+const EDGES: usize = Curve::MAX_STEPS + 2;
 
-const PRICES: usize = 10;
+const PRICES: usize = Curve::MAX_STEPS;
 
 // How many numbers the slice lent to noskjerf_told has to have: the number of a refusal and its line.
 const TOLD: usize = 2;
 
 // Puts the number of steps, the start and the ends of a curve at the front of a slice.
 fn put_edges(curve: Curve, edges: &mut [u64])
-    requires { ⌜ 12 ≤ length (now edges) ⌝ }
+    requires { ⌜ edgeCount ≤ length (now edges) ⌝ }
     ensures { λ r. ⌜ now (edges .exit) ≡ sets (now (edges .entry)) 0 (edgesOf curve) ⌝ }
 {
     edges[0] = curve.count as u64;
@@ -37,7 +37,7 @@ fn put_edges(curve: Curve, edges: &mut [u64])
 
 // Puts the prices of a curve at the front of a slice.
 fn put_prices(curve: Curve, prices: &mut [i64])
-    requires { ⌜ 10 ≤ length (now prices) ⌝ }
+    requires { ⌜ priceCount ≤ length (now prices) ⌝ }
     ensures { λ r. ⌜ now (prices .exit) ≡ sets (now (prices .entry)) 0 (pricesOf curve) ⌝ }
 {
     let mut i: usize = 0;
@@ -106,8 +106,8 @@ pub extern "C" fn noskjerf_bid(month: u64, start: i64, count: usize, steps: &[i6
 }
 
 // The default energy bid from costs. `points` has quantity and heat rate of each point in turn, `charges` gas, rate, allowance, om, msc, soc and fee, and numbers
-// past their ends count as 0. Answers 0 and puts the curve's number of steps, start and ten ends into `edges`, and its ten prices into `prices`; or answers the
-// number of a refusal, or -1 where `edges` has fewer than 12 numbers or `prices` fewer than 10, and leaves both as they were.
+// past their ends count as 0. Answers 0 and puts the curve's number of steps, start and eleven ends into `edges`, and its eleven prices into `prices`; or answers the
+// number of a refusal, or -1 where `edges` has fewer than 13 numbers or `prices` fewer than 11, and leaves both as they were.
 #[no_mangle]
 pub extern "C" fn noskjerf_default(
     count: usize,

@@ -14,7 +14,7 @@ ghost use lib.ListN.{length};
 ghost use lib.Seq.{sets};
 ghost use Rattle.rules_mitigation.specs.Mitigation.{usedSteps};
 ghost use Rattle.rules_text.specs.Printing.{lineText, groupText, refusalText};
-ghost use Rattle.rules_page.specs.Pages.{printable as printableOf};
+ghost use Rattle.rules_page.specs.Pages.{curveBytes, curvesBytes, printable as printableOf};
 ghost use Rattle.rules_page.specs.Pages.{shown as shownOf};
 ghost use Rattle.rules_page.specs.Pages.{stepRow, verdictRow, sellersNamed, verdictTable, sellerTable, curveTable, verdictText, curveText, Put, verdictRoom, curveRoom, refusalRoom, putWithin, putWithinTo};
 
@@ -74,8 +74,8 @@ fn shown(v: Verdict) -> Verdict
 
 // Puts the steps of the curve of resource r, a line each, and answers the offset after them.
 fn put_steps(out: &mut [u8], at: usize, i: u64, r: u64, curve: Mitigated) -> usize
-    requires { ⌜ (at + 1596 ≤ length (now out)) × (r < 64) ⌝ }
-    ensures { λ q. ⌜ Put 1596 (now (out .entry)) at (groupText (printableOf i) r (map stepRow (usedSteps curve))) (now (out .exit)) q ⌝ }
+    requires { ⌜ (at + curveBytes ≤ length (now out)) × (r < 64) ⌝ }
+    ensures { λ q. ⌜ Put curveBytes (now (out .entry)) at (groupText (printableOf i) r (map stepRow (usedSteps curve))) (now (out .exit)) q ⌝ }
 {
     let n = number::at_most(curve.count, Mitigated::MAX_STEPS);
     let mut p = at;
@@ -177,8 +177,8 @@ fn put_curves(
     rows: [Row; Interval::MAX_RESOURCES],
     floors: [Floor; Interval::MAX_RESOURCES],
 ) -> usize
-    requires { ⌜ at + 102144 ≤ length (now out) ⌝ }
-    ensures { λ q. ⌜ Put 102144 (now (out .entry)) at (curveTable i resources rows floors) (now (out .exit)) q ⌝ }
+    requires { ⌜ at + curvesBytes ≤ length (now out) ⌝ }
+    ensures { λ q. ⌜ Put curvesBytes (now (out .entry)) at (curveTable i resources rows floors) (now (out .exit)) q ⌝ }
 {
     let n = number::at_most(resources, Interval::MAX_RESOURCES);
     let mut p = at;

@@ -14,9 +14,9 @@ use Rattle.rules_number.proofs.OrderLaws.{min-le-right}
 use Rattle.rules_number.proofs.CeilSize.{ceil-ge, ceil-lt}
 use Rattle.rules_number.proofs.OverLaws.{listed-length}
 use Rattle.rules_curve.specs.Refusals.{outcomeNumber}
-use Rattle.rules_curve.specs.Curves.{unlessRefused, curveWith, edgeSuits, priceSuits, countGood, edgesGood, pricesGood, curveRefusal, defaultRefusal, highestDefault, lowestDefault}
+use Rattle.rules_curve.specs.Curves.{mostSteps, unlessRefused, curveWith, edgeSuits, priceSuits, countGood, edgesGood, pricesGood, curveRefusal, defaultRefusal, highestDefault, lowestDefault}
 use Rattle.rules_curve.specs.Meaning.{Sound}
-use Rattle.rules_curve.proofs.CheckLaws.{checked-sound}
+use Rattle.rules_curve.proofs.CheckLaws.{default-checked}
 use Rattle.rules_curve.proofs.ChainLaws.{chain-listed}
 use Rattle.rules_curve.proofs.RawLaws.{rawStep, rawOf, raw-listed, raw-back}
 use Rattle.rules_curve.specs.declared.Curve.{Curve}
@@ -89,11 +89,11 @@ module _ (c : Costs) (accepted : costRefusal c ≡ 0) where
       let next = at-point (suc i) (omega arith) in
       rw (below (mwAt c i) (mwAt c (suc i)) (mw-rises c (passed c accepted .quantities) i (omega arith)) (here .0) (next .0), le-leb (natOf (mwAt c (suc i))) 1000000 (next .1))
 
-  counted : countGood (rawOf (costCurve c)) ≡ true
+  counted : countGood mostSteps (rawOf (costCurve c)) ≡ true
   unfolding costCurve
   counted =
       let n = few c (passed c accepted .points) in
-      rw (listed-length (costStep c) (stepCount c), le-leb 1 (c .count - 1) (omega arith), le-leb (c .count - 1) 10 (omega arith))
+      rw (listed-length (costStep c) (stepCount c), le-leb 1 (c .count - 1) (omega arith), le-leb (c .count - 1) mostSteps (omega arith))
 
   edged : edgesGood (rawOf (costCurve c)) ≡ true
   unfolding costCurve inRange
@@ -128,12 +128,12 @@ module _ (c : Costs) (accepted : costRefusal c ≡ 0) where
   unfolding curveRefusal
   cost-curve-passes = rw (counted, edged, priced)
 
-  -- It is a sound curve: at most ten steps, its ends rise and its prices never fall.
+  -- It is a sound curve: at most eleven steps, its ends rise and its prices never fall.
   pub cost-sound : Sound (costCurve c)
   unfolding costCurve
   cost-sound =
       rw (← raw-back (natOf (mwAt c 0)) (listed (costStep c) (stepCount c)))
-      (checked-sound lowestDefault highestDefault (rawOf (curveWith (natOf (mwAt c 0)) (listed (costStep c) (stepCount c)))) cost-curve-passes)
+      (default-checked lowestDefault highestDefault (rawOf (curveWith (natOf (mwAt c 0)) (listed (costStep c) (stepCount c)))) cost-curve-passes)
 
 -- So does what the call hands back, where it accepts.
 pub accepted-curve-passes : (c : Costs) (r : Checked) → outcomeNumber (r .outcome) ≡ costRefusal c → r .curve ≡ unlessRefused (costRefusal c) (costCurve c)

@@ -17,14 +17,14 @@ use Rattle.rules_curve.specs.Demands.{_asks_, Between, First}
 use Rattle.rules_number.proofs.ExactLaws.{le-exactly, leZ-exactly, ltZ-exactly, and-exactly, range-exactly, all-exactly, iff-then}
 use Rattle.rules_curve.proofs.FirstLaws.{exactly, accepted-exactly, first-more}
 use Rattle.rules_cost.specs.Conditions.{m, h, w, n, PMax, IsRate, Pointed, Quantified, Heated, Charged, Rated, costDemands}
-use Rattle.rules_cost.specs.Costs.{pointAt, width, unlimited, incrementalRate, rateAt, pointsGood, mwSuits, mwGood, heatInRange, heatGood, chargesInRange, pricesInRange, rateInRange, ratesGood, costRefusal}
+use Rattle.rules_cost.specs.Costs.{mostPoints, pointAt, width, unlimited, incrementalRate, rateAt, pointsGood, mwSuits, mwGood, heatInRange, heatGood, chargesInRange, pricesInRange, rateInRange, ratesGood, costRefusal}
 use Rattle.rules_cost.specs.declared.Costs.{Costs}
 
 module _ (c : Costs) where
   -- ---- 4
   points-exactly : (pointsGood c ≡ true) ↔ Pointed c
   points-exactly =
-      iff-then (and-exactly _ _ (le-exactly 2 (c .count)) (le-exactly (c .count) 11)) (λ g. record { at-least = g .0; at-most = g .1 }) (λ g. (g .at-least, g .at-most))
+      iff-then (and-exactly _ _ (le-exactly 2 (c .count)) (le-exactly (c .count) mostPoints)) (λ g. record { at-least = g .0; at-most = g .1 }) (λ g. (g .at-least, g .at-most))
 
   -- ---- 5
   -- point i is in range and, if it is not the first, above the one before it

@@ -17,7 +17,7 @@ use Rattle.rules_number.proofs.RangeLaws.{rises}
 use Rattle.rules_number.proofs.ExactLaws.{leZ-exactly, ltZ-exactly}
 use Rattle.rules_number.proofs.OverLaws.{listed-length}
 use Rattle.rules_number.proofs.CellLaws.{cell-listed}
-use Rattle.rules_curve.specs.Curves.{stepTo, blankStep}
+use Rattle.rules_curve.specs.Curves.{mostSteps, stepTo, blankStep}
 use Rattle.rules_curve.specs.declared.Step.{Step}
 use Rattle.rules_curve.specs.declared.Curve.{Curve}
 use Rattle.rules_cost.specs.Conditions.{m, Quantified}
@@ -197,7 +197,7 @@ module _ (c : Costs) (good : Quantified c) (some : 0 < c .count) where
 
   step-is : (i : ℕ) → i < stepCount c → step (costCurve c) i ≡ costStep c i
   unfolding costCurve
-  step-is i l = cell-listed 10 blankStep blankStep (costStep c) (stepCount c) i l
+  step-is i l = cell-listed mostSteps blankStep blankStep (costStep c) (stepCount c) i l
 
   -- "The curve starts at the first m and each later m ends one step"; its prices are the raised ones
   pub curve-is : IsDefaultCurve c (costCurve c)

@@ -10,7 +10,7 @@ use Rattle.rules_number.specs.Order.{inRange}
 use Rattle.rules_number.proofs.Kit.{Bd, bd-between, in-lo, in-hi}
 use Rattle.rules_number.proofs.OverLaws.{both, all-at}
 use Rattle.rules_number.proofs.RangeLaws.{bd-in, rises}
-use Rattle.rules_cost.specs.Costs.{pointAt, mwAt, heatAt, width, mwInRange, heatInRange, rateInRange, mwSuits, pointsGood, mwGood, heatGood, chargesInRange, pricesInRange}
+use Rattle.rules_cost.specs.Costs.{mostPoints, pointAt, mwAt, heatAt, width, mwInRange, heatInRange, rateInRange, mwSuits, pointsGood, mwGood, heatGood, chargesInRange, pricesInRange}
 use Rattle.rules_cost.specs.declared.Costs.{Costs}
 
 -- ---- the size of what is in range
@@ -28,8 +28,8 @@ pub rate-lowest : (R : ℤ) → rateInRange R ≡ true → negℤ (pos 100000) �
 rate-lowest R e = in-lo (negℤ (pos 100000)) (pos 100000) R e
 
 -- ---- 4: the count
-pub few : (c : Costs) → pointsGood c ≡ true → (2 ≤ c .count) × (c .count ≤ 11)
-few c h = let b = both (leb 2 (c .count)) (leb (c .count) 11) h in (leb-true _ _ (b .0), leb-true _ _ (b .1))
+pub few : (c : Costs) → pointsGood c ≡ true → (2 ≤ c .count) × (c .count ≤ mostPoints)
+few c h = let b = both (leb 2 (c .count)) (leb (c .count) mostPoints) h in (leb-true _ _ (b .0), leb-true _ _ (b .1))
 
 -- ---- 5: the quantities
 -- the quantity before point i, and one below every quantity before the first

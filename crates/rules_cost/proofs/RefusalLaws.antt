@@ -6,18 +6,18 @@ use native.Mathlib.Omega.{arith}
 use borrow.Author.Tests.{le-leb, lt-leb}
 use Rattle.rules_curve.specs.Refusals.{unless, _then_}
 use Rattle.rules_curve.proofs.CheckLaws.{then-both, unless-holds}
-use Rattle.rules_cost.specs.Costs.{pointsGood, mwGood, heatGood, pricesInRange, ratesGood, costRefusal}
+use Rattle.rules_cost.specs.Costs.{mostPoints, pointsGood, mwGood, heatGood, pricesInRange, ratesGood, costRefusal}
 use Rattle.rules_cost.specs.declared.Costs.{Costs}
 
 module _ (c : Costs) where
   pub too-few : c .count < 2 → pointsGood c ≡ false
   too-few h = rw (lt-leb 2 (c .count) h)
 
-  pub too-many : 11 < c .count → pointsGood c ≡ false
-  too-many h = rw (le-leb 2 (c .count) (omega arith), lt-leb (c .count) 11 h)
+  pub too-many : mostPoints < c .count → pointsGood c ≡ false
+  too-many h = rw (le-leb 2 (c .count) (omega arith), lt-leb (c .count) mostPoints h)
 
-  pub right-count : 2 ≤ c .count → c .count ≤ 11 → pointsGood c ≡ true
-  right-count h k = rw (le-leb 2 (c .count) h, le-leb (c .count) 11 k)
+  pub right-count : 2 ≤ c .count → c .count ≤ mostPoints → pointsGood c ≡ true
+  right-count h k = rw (le-leb 2 (c .count) h, le-leb (c .count) mostPoints k)
 
   pub refused-4 : pointsGood c ≡ false → costRefusal c ≡ 4
   unfolding costRefusal

@@ -16,6 +16,10 @@ use Rattle.rules_curve.specs.declared.Curve.{Curve}
 use Rattle.rules_cost.specs.declared.Point.{Point}
 use Rattle.rules_cost.specs.declared.Costs.{Costs}
 
+-- the most points of a resource, which is their room
+abbrev pub mostPoints : ℕ
+mostPoints = 11
+
 abbrev pub blankPoint : Point
 blankPoint = record { mw = pos 0; heat = pos 0 }
 
@@ -96,7 +100,7 @@ costCurve c = curveWith (natOf (mwAt c 0)) (listed (costStep c) (stepCount c))
 -- ---- checks 4 to 8
 -- 4: 2 to 11 points
 abbrev pub pointsGood : Costs → Bool
-pointsGood c = leb 2 (c .count) && leb (c .count) 11
+pointsGood c = leb 2 (c .count) && leb (c .count) mostPoints
 
 -- 5: m is 0 to 1,000,000 and above the m before it
 abbrev pub mwInRange : ℤ → Bool

@@ -7,13 +7,13 @@ use lib.IntN.{ℤ, pos}
 use lib.ListN.{replicate}
 use Rattle.rules_number.specs.Order.{natOf}
 use Rattle.rules_number.specs.Over.{padded}
-use Rattle.rules_curve.specs.Curves.{rawSteps, stepsOf, stepOf, blankCurve, curveOf, unlessRefused, checkedCurve, curveRefusal}
+use Rattle.rules_curve.specs.Curves.{mostSteps, rawSteps, stepsOf, stepOf, blankCurve, curveOf, unlessRefused, checkedCurve, curveRefusal}
 use Rattle.rules_curve.specs.declared.Curve.{Curve}
 use Rattle.rules_curve.specs.declared.RawCurve.{RawCurve}
 use Rattle.rules_curve.proofs.CheckLaws.{with-used}
 
 -- the curve of nothing: start 0 and no steps
-pub blank-is : blankCurve ≡ record { start = 0; count = 0; steps = replicate 10 (record { end = 0; price = pos 0 }) }
+pub blank-is : blankCurve ≡ record { start = 0; count = 0; steps = replicate mostSteps (record { end = 0; price = pos 0 }) }
 unfolding blankCurve padded
 blank-is = refl
 
@@ -21,8 +21,8 @@ pub refused-alone : (n : ℕ) (c : Curve) → 0 < n → unlessRefused n c ≡ bl
 refused-alone zero c h = absurd (omega arith)
 refused-alone (suc n) c h = refl
 
-pub accepted-whole : (low top : ℤ) (c : RawCurve) → curveRefusal low top c ≡ 0 → checkedCurve low top c ≡ curveOf c
-accepted-whole low top c e = ap (λ (n : ℕ). unlessRefused n (curveOf c)) e
+pub accepted-whole : (most : ℕ) (low top : ℤ) (c : RawCurve) → curveRefusal most low top c ≡ 0 → checkedCurve most low top c ≡ curveOf c
+accepted-whole most low top c e = ap (λ (n : ℕ). unlessRefused n (curveOf c)) e
 
 -- its start and its steps are those that were read
 pub same-start : (c : RawCurve) → curveOf c .start ≡ natOf (c .start)

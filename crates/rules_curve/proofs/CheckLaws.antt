@@ -1,25 +1,28 @@
 -- What a curve that passes the checks is like.
 use mathlib.Core.Bool.{Bool, true, false, cond}
 use mathlib.Core.List.{List, [], _∷_, map}
-use mathlib.Core.Path.{_≡_, refl}
+use mathlib.Core.Path.{_≡_, refl, _∙_}
 use Prim.Native.Nat.{ℕ, zero, suc, _<_, _≤_}
+use native.Mathlib.Nat.{le-refl, le-trans}
 use native.Mathlib.Omega.{arith}
 use mathlib.Core.Logic.{⊎-elim}
 use borrow.Author.Tests.{ltb-true, leb-true}
 use lib.Dec.{leb}
-use lib.ListN.{length, length-map, length-take}
+use lib.ListN.{length, getD, length-map, length-take}
+use lib.Seq.{take-all}
 use lib.IntN.{ℤ, pos, negsuc}
 use lib.Signed.{ltZ}
 use Rattle.rules_number.specs.Order.{inRange, natOf}
 use Rattle.rules_number.proofs.Kit.{var, le-by, le-true}
-use Rattle.rules_number.proofs.OverLaws.{never, both, last-or-before, padded-used}
+use Rattle.rules_number.proofs.OverLaws.{never, both, last-or-before, padded-used, taken-at}
 use Rattle.rules_curve.specs.Refusals.{unless, _then_, eachTo}
-use Rattle.rules_curve.specs.Curves.{chain, edgeSuits, priceSuits, rawSteps, stepOf, stepsOf, curveOf, curveWith, blankStep, curveRefusal, countGood, edgesGood, pricesGood}
-use Rattle.rules_curve.specs.Meaning.{Rising, NeverBelow, NeverFalling, Sound}
+use Rattle.rules_curve.specs.Curves.{mostSteps, mostBidSteps, bidSteps, chain, edgeSuits, priceSuits, rawSteps, stepOf, stepsOf, curveOf, curveWith, blankStep, curveRefusal, countGood, edgesGood, pricesGood}
+use Rattle.rules_curve.specs.Meaning.{Rising, NeverBelow, NeverFalling, Sound, SoundBid}
 use Rattle.rules_curve.proofs.PriceLaws.{below-later}
 use Rattle.rules_curve.specs.declared.Step.{Step}
 use Rattle.rules_curve.specs.declared.RawStep.{RawStep}
 use Rattle.rules_curve.specs.declared.RawCurve.{RawCurve}
+use Rattle.rules_curve.specs.declared.Curve.{Curve}
 
 -- ---- a chain of checks that accepts
 refused : {X : Type 0} (n : ℕ) → suc n ≡ 0 → X
@@ -72,38 +75,38 @@ chain-never-falls top p (s ∷ l) e =
 
 -- the steps of a curve that is made of steps
 pub with-used : (s : ℕ) (l : List Step) → stepsOf (curveWith s l) ≡ l
-with-used s l = padded-used 10 blankStep l
+with-used s l = padded-used mostSteps blankStep l
 
 -- a curve made of steps that rise and never fall
-pub sound-with : (s : ℕ) (l : List Step) → length l ≤ 10 → Rising s l → NeverFalling l → Sound (curveWith s l)
+pub sound-with : (s : ℕ) (l : List Step) → length l ≤ mostSteps → Rising s l → NeverFalling l → Sound (curveWith s l)
 sound-with s l n r f = let u = with-used s l in record { few = rw u n; rising = rw u r; never-falling = rw u f }
 
 -- ---- which number a curve is refused with
-module _ (low top : ℤ) (c : RawCurve) where
-  pub refused-count : countGood c ≡ false → curveRefusal low top c ≡ 1
+module _ (most : ℕ) (low top : ℤ) (c : RawCurve) where
+  pub refused-count : countGood most c ≡ false → curveRefusal most low top c ≡ 1
   unfolding curveRefusal
   refused-count n = rw n
 
-  pub refused-edge : countGood c ≡ true → edgesGood c ≡ false → curveRefusal low top c ≡ 2
+  pub refused-edge : countGood most c ≡ true → edgesGood c ≡ false → curveRefusal most low top c ≡ 2
   unfolding curveRefusal
   refused-edge n e = rw (n, e)
 
-  pub refused-price : countGood c ≡ true → edgesGood c ≡ true → pricesGood low top c ≡ false → curveRefusal low top c ≡ 3
+  pub refused-price : countGood most c ≡ true → edgesGood c ≡ true → pricesGood low top c ≡ false → curveRefusal most low top c ≡ 3
   unfolding curveRefusal
   refused-price n e p = rw (n, e, p)
 
-  pub taken-curve : countGood c ≡ true → edgesGood c ≡ true → pricesGood low top c ≡ true → curveRefusal low top c ≡ 0
+  pub taken-curve : countGood most c ≡ true → edgesGood c ≡ true → pricesGood low top c ≡ true → curveRefusal most low top c ≡ 0
   unfolding curveRefusal
   taken-curve n e p = rw (n, e, p)
 
 -- ---- a curve that passes
-module _ (low top : ℤ) (c : RawCurve) (passed : curveRefusal low top c ≡ 0) where
-  pub checks-good : (countGood c ≡ true) × (edgesGood c ≡ true) × (pricesGood low top c ≡ true)
+module _ (most : ℕ) (low top : ℤ) (c : RawCurve) (passed : curveRefusal most low top c ≡ 0) where
+  pub checks-good : (countGood most c ≡ true) × (edgesGood c ≡ true) × (pricesGood low top c ≡ true)
   unfolding curveRefusal
   checks-good =
-      let x = then-both (unless (countGood c) 1 then unless (edgesGood c) 2) (unless (pricesGood low top c) 3) passed in
-      let y = then-both (unless (countGood c) 1) (unless (edgesGood c) 2) (x .0) in
-      (unless-holds (countGood c) 0 (y .0), unless-holds (edgesGood c) 1 (y .1), unless-holds (pricesGood low top c) 2 (x .1))
+      let x = then-both (unless (countGood most c) 1 then unless (edgesGood c) 2) (unless (pricesGood low top c) 3) passed in
+      let y = then-both (unless (countGood most c) 1) (unless (edgesGood c) 2) (x .0) in
+      (unless-holds (countGood most c) 0 (y .0), unless-holds (edgesGood c) 1 (y .1), unless-holds (pricesGood low top c) 2 (x .1))
 
   -- a curve that passes rises
   pub checked-rising : Rising (curveOf c .start) (stepsOf (curveOf c))
@@ -113,12 +116,35 @@ module _ (low top : ℤ) (c : RawCurve) (passed : curveRefusal low top c ≡ 0) 
       rw (with-used (natOf (c .start)) (map stepOf (rawSteps c)))
       (chain-rising (natOf (c .start)) (rawSteps c) (rw (← start-good (c .start) (e .0)) (e .1)))
 
-  -- it has at most ten steps, its ends rise and its prices never fall
-  pub checked-sound : Sound (curveOf c)
+  -- it has no more steps than that
+  pub checked-few : length (stepsOf (curveOf c)) ≤ most
   unfolding curveOf
-  checked-sound =
-      let b = both (leb 1 (c .count)) (leb (c .count) 10) (checks-good .0) in
+  checked-few =
+      let b = both (leb 1 (c .count)) (leb (c .count) most) (checks-good .0) in
+      rw (with-used (natOf (c .start)) (map stepOf (rawSteps c)), length-map (rawSteps c) stepOf)
+      (omega (arith, leb-true (c .count) most (b .1), length-take (c .count) (c .steps)))
+
+  -- its ends rise and its prices never fall
+  pub checked-sound : most ≤ mostSteps → Sound (curveOf c)
+  unfolding curveOf
+  checked-sound room =
       sound-with (natOf (c .start)) (map stepOf (rawSteps c))
-      (rw (length-map (rawSteps c) stepOf) (omega (arith, leb-true (c .count) 10 (b .1), length-take (c .count) (c .steps))))
+      (rw (with-used (natOf (c .start)) (map stepOf (rawSteps c))) at (le-trans checked-few room))
       (rw (with-used (natOf (c .start)) (map stepOf (rawSteps c))) at checked-rising)
       (below-later low (map stepOf (rawSteps c)) (chain-never-falls top low (rawSteps c) (checks-good .2)))
+
+-- of a bid, and of a default curve
+pub bid-checked : (low top : ℤ) (c : RawCurve) → curveRefusal mostBidSteps low top c ≡ 0 → SoundBid (curveOf c)
+bid-checked low top c passed = record { few = checked-few mostBidSteps low top c passed; sound = checked-sound mostBidSteps low top c passed (omega arith) }
+
+pub default-checked : (low top : ℤ) (c : RawCurve) → curveRefusal mostSteps low top c ≡ 0 → Sound (curveOf c)
+default-checked low top c passed = checked-sound mostSteps low top c passed (le-refl mostSteps)
+
+-- a bid's ten steps are all that it has
+pub bid-steps : (c : Curve) → length (stepsOf c) ≤ mostBidSteps → bidSteps c ≡ stepsOf c
+bid-steps c few = take-all mostBidSteps (stepsOf c) few
+
+pub bid-at : (c : Curve) (i : ℕ) → i < length (bidSteps c) → getD (bidSteps c) i blankStep ≡ getD (c .steps) i blankStep
+bid-at c i h =
+    taken-at mostBidSteps (stepsOf c) i blankStep h
+    ∙ taken-at (c .count) (c .steps) i blankStep (omega (arith, length-take mostBidSteps (stepsOf c)))

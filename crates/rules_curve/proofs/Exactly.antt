@@ -15,7 +15,7 @@ use Rattle.rules_number.proofs.Kit.{var, le-by, le-of, lt-of, ≤ℤ-trans}
 use Rattle.rules_number.proofs.OverLaws.{never, le-or-lt}
 use Rattle.rules_curve.specs.Demands.{_asks_, First}
 use Rattle.rules_curve.specs.Conditions.{noStep, stepAt, price, edge, Counted, Edged, Priced, BidPriced, DefaultPriced, bidDemands, defaultDemands}
-use Rattle.rules_curve.specs.Curves.{chain, countGood, edgesGood, edgeSuits, pricesGood, priceSuits, curveRefusal, bidRefusal, defaultRefusal, highestBid, lowestBid, highestDefault, lowestDefault}
+use Rattle.rules_curve.specs.Curves.{mostBidSteps, mostSteps, chain, countGood, edgesGood, edgeSuits, pricesGood, priceSuits, curveRefusal, bidRefusal, defaultRefusal, highestBid, lowestBid, highestDefault, lowestDefault}
 use Rattle.rules_curve.specs.declared.RawCurve.{RawCurve}
 use Rattle.rules_number.proofs.ExactLaws.{le-exactly, leZ-exactly, ltZ-exactly, and-exactly, range-exactly, iff-then}
 use Rattle.rules_curve.proofs.FirstLaws.{exactly, accepted-exactly, first-more}
@@ -71,9 +71,9 @@ module _ {A : Type 0} (suits : ℤ → A → Bool) (key : A → ℤ) (d : A) whe
       is (suc i) = sym (same i)
 
 -- ---- 1
-pub count-exactly : (c : RawCurve) → (countGood c ≡ true) ↔ Counted c
-count-exactly c =
-    iff-then (and-exactly (leb 1 (c .count)) (leb (c .count) 10) (le-exactly 1 (c .count)) (le-exactly (c .count) 10))
+pub count-exactly : (most : ℕ) (c : RawCurve) → (countGood most c ≡ true) ↔ Counted most c
+count-exactly most c =
+    iff-then (and-exactly (leb 1 (c .count)) (leb (c .count) most) (le-exactly 1 (c .count)) (le-exactly (c .count) most))
     (λ h. record { at-least = h .0; at-most = h .1 })
     (λ h. (h .at-least, h .at-most))
 
@@ -133,15 +133,15 @@ module _ (c : RawCurve) (few : c .count ≤ length (c .steps)) where
     prices-exactly = iff-then (chain-each (priceSuits top) (λ s. s .price) noStep Suits priceBefore (c .count) (c .steps) few (λ i. refl) price-exactly) priced suiting
 
 -- ---- the three in order, where P says what the prices' test tests
-module _ (low top : ℤ) (c : RawCurve) (full : length (c .steps) ≡ 10) (P : Type 0) (said : Priced low top c ↔ P) where
-  pub curve-first : First (curveRefusal low top c) ((1 asks Counted c) ∷ (2 asks Edged c) ∷ (3 asks P) ∷ [])
+module _ (most : ℕ) (low top : ℤ) (c : RawCurve) (held : most ≤ length (c .steps)) (P : Type 0) (said : Priced low top c ↔ P) where
+  pub curve-first : First (curveRefusal most low top c) ((1 asks Counted most c) ∷ (2 asks Edged c) ∷ (3 asks P) ∷ [])
   unfolding curveRefusal
   curve-first =
-      first-more ((1 asks Counted c) ∷ (2 asks Edged c) ∷ []) _ (pricesGood low top c) 2
-      (first-more ((1 asks Counted c) ∷ []) _ (edgesGood c) 1 (first-more [] 0 (countGood c) 0 refl (λ m. count-exactly c)) (λ m. edges-exactly c (holds (m .0))))
+      first-more ((1 asks Counted most c) ∷ (2 asks Edged c) ∷ []) _ (pricesGood low top c) 2
+      (first-more ((1 asks Counted most c) ∷ []) _ (edgesGood c) 1 (first-more [] 0 (countGood most c) 0 refl (λ m. count-exactly most c)) (λ m. edges-exactly c (holds (m .0))))
       (λ m. iff-then (prices-exactly c (holds (m .0)) low top) (said .0) (said .1))
     where
-      holds : Counted c → c .count ≤ length (c .steps)
+      holds : Counted most c → c .count ≤ length (c .steps)
       holds h = omega (arith, h .at-most)
 
 -- ---- a bid's prices, by month
@@ -164,13 +164,13 @@ module _ (month : ℕ) (c : RawCurve) where
   pub bid-prices : To (highestBid month) ↔ BidPriced month c
   bid-prices = ⊎-elim to-12 (λ h. ⊎-elim (to-24 h) from-25 (le-or-lt month 24)) (le-or-lt month 12)
 
--- ---- the theorems: a curve holds an array of ten steps
-module _ (c : RawCurve) (full : length (c .steps) ≡ 10) where
+-- ---- the theorems: a curve holds an array of eleven steps
+module _ (c : RawCurve) (full : length (c .steps) ≡ mostSteps) where
   pub bid-first : (month : ℕ) → First (bidRefusal month c) (bidDemands month c)
-  bid-first month = curve-first lowestBid (highestBid month) c full (BidPriced month c) (bid-prices month c)
+  bid-first month = curve-first mostBidSteps lowestBid (highestBid month) c (omega arith) (BidPriced month c) (bid-prices month c)
 
   pub default-first : First (defaultRefusal c) (defaultDemands c)
-  default-first = curve-first lowestDefault highestDefault c full (DefaultPriced c) ((λ p. p), λ p. p)
+  default-first = curve-first mostSteps lowestDefault highestDefault c (omega arith) (DefaultPriced c) ((λ p. p), λ p. p)
 
   -- a bid, and a default curve, is refused with n exactly when n is the number of the first demand that it does not meet
   pub bid-exactly : (month n : ℕ) → (bidRefusal month c ≡ n) ↔ First n (bidDemands month c)
@@ -180,8 +180,8 @@ module _ (c : RawCurve) (full : length (c .steps) ≡ 10) where
   default-exactly n = exactly (defaultDemands c) (defaultRefusal c) default-first n
 
   -- and is taken exactly when it meets all three
-  pub bid-accepted : (month : ℕ) → (bidRefusal month c ≡ 0) ↔ (Counted c × Edged c × BidPriced month c)
+  pub bid-accepted : (month : ℕ) → (bidRefusal month c ≡ 0) ↔ (Counted 10 c × Edged c × BidPriced month c)
   bid-accepted month = iff-then (accepted-exactly (bidDemands month c) (bidRefusal month c) (bid-first month)) (λ m. (m .0, m .1 .0, m .1 .1 .0)) (λ h. (h .0, (h .1, (h .2, tt))))
 
-  pub default-accepted : (defaultRefusal c ≡ 0) ↔ (Counted c × Edged c × DefaultPriced c)
+  pub default-accepted : (defaultRefusal c ≡ 0) ↔ (Counted 11 c × Edged c × DefaultPriced c)
   default-accepted = iff-then (accepted-exactly (defaultDemands c) (defaultRefusal c) default-first) (λ m. (m .0, m .1 .0, m .1 .1 .0)) (λ h. (h .0, (h .1, (h .2, tt))))

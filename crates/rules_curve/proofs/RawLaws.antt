@@ -5,7 +5,7 @@ use Prim.Native.Nat.{ℕ}
 use lib.IntN.{pos}
 use lib.ListN.{length}
 use Rattle.rules_number.specs.Over.{listed, padded}
-use Rattle.rules_curve.specs.Curves.{blankStep, curveWith, curveOf, stepOf, rawSteps}
+use Rattle.rules_curve.specs.Curves.{mostSteps, blankStep, curveWith, curveOf, stepOf, rawSteps}
 use Rattle.rules_curve.specs.declared.RawStep.{RawStep}
 use Rattle.rules_curve.specs.declared.RawCurve.{RawCurve}
 use Rattle.rules_curve.specs.declared.Step.{Step}
@@ -22,7 +22,7 @@ rawOf c = record { start = pos (c .start); count = c .count; steps = map rawStep
 
 pub raw-listed : (s : ℕ) (f : ℕ → Step) (n : ℕ) → rawSteps (rawOf (curveWith s (listed f n))) ≡ listed (λ i. rawStep (f i)) n
 raw-listed s f n =
-    take-map rawStep (length (listed f n)) (padded 10 blankStep (listed f n)) ∙ ap (map rawStep) (with-used s (listed f n)) ∙ map-listed rawStep f n
+    take-map rawStep (length (listed f n)) (padded mostSteps blankStep (listed f n)) ∙ ap (map rawStep) (with-used s (listed f n)) ∙ map-listed rawStep f n
 
 map-back : (l : List Step) → map stepOf (map rawStep l) ≡ l
 map-back [] = refl
@@ -32,4 +32,4 @@ map-back (s ∷ l) = ap (λ (t : List Step). s ∷ t) (map-back l)
 pub raw-back : (s : ℕ) (l : List Step) → curveOf (rawOf (curveWith s l)) ≡ curveWith s l
 unfolding curveOf
 raw-back s l =
-    ap (curveWith s) (ap (map stepOf) (take-map rawStep (length l) (padded 10 blankStep l) ∙ ap (map rawStep) (with-used s l)) ∙ map-back l)
+    ap (curveWith s) (ap (map stepOf) (take-map rawStep (length l) (padded mostSteps blankStep l) ∙ ap (map rawStep) (with-used s l)) ∙ map-back l)

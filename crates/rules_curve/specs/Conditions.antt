@@ -23,10 +23,10 @@ abbrev pub edge : RawCurve → ℕ → ℤ
 edge c zero = c .start
 edge c (suc i) = stepAt c i .end
 
--- 1: "step count outside 1 to 10"
-pub record Counted (c : RawCurve) : Type 0 where
+-- 1: "step count outside 1 to 10"; "refusal 1 allows a default curve 11"
+pub record Counted (most : ℕ) (c : RawCurve) : Type 0 where
   pub at-least : 1 ≤ c .count
-  pub at-most : c .count ≤ 10
+  pub at-most : c .count ≤ most
 
 -- 2: "an edge outside 0 to 1,000,000, or edges not rising"
 pub record Edged (c : RawCurve) : Type 0 where
@@ -50,7 +50,7 @@ DefaultPriced c = Priced (negℤ (pos 1000000000)) (pos 1000000000) c
 
 -- a bid in a month, and a default curve from a pack
 abbrev pub bidDemands : ℕ → RawCurve → List Demand
-bidDemands month c = (1 asks Counted c) ∷ (2 asks Edged c) ∷ (3 asks BidPriced month c) ∷ []
+bidDemands month c = (1 asks Counted 10 c) ∷ (2 asks Edged c) ∷ (3 asks BidPriced month c) ∷ []
 
 abbrev pub defaultDemands : RawCurve → List Demand
-defaultDemands c = (1 asks Counted c) ∷ (2 asks Edged c) ∷ (3 asks DefaultPriced c) ∷ []
+defaultDemands c = (1 asks Counted 11 c) ∷ (2 asks Edged c) ∷ (3 asks DefaultPriced c) ∷ []

@@ -25,9 +25,20 @@ stepTo e p = record { end = e; price = p }
 abbrev pub blankStep : Step
 blankStep = stepTo 0 (pos 0)
 
+-- the most steps of a bid, and of a default curve: the room of any curve
+abbrev pub mostBidSteps : ℕ
+mostBidSteps = 10
+
+abbrev pub mostSteps : ℕ
+mostSteps = 11
+
 -- the steps that a curve uses
 abbrev pub stepsOf : Curve → List Step
 stepsOf c = take (c .count) (c .steps)
+
+-- those of a bid, of which it has at most ten: one past them doesn't count
+abbrev pub bidSteps : Curve → List Step
+bidSteps c = take mostBidSteps (stepsOf c)
 
 abbrev pub rawSteps : RawCurve → List RawStep
 rawSteps c = take (c .count) (c .steps)
@@ -78,9 +89,9 @@ chain suits key p (s ∷ l) =
     let later = chain suits key (key s) l in
     cond (suits p s) later false
 
--- 1: the step count is 1 to 10
-abbrev pub countGood : RawCurve → Bool
-countGood c = leb 1 (c .count) && leb (c .count) 10
+-- 1: the step count is 1 to the most
+abbrev pub countGood : ℕ → RawCurve → Bool
+countGood most c = leb 1 (c .count) && leb (c .count) most
 
 -- 2: the start is 0 to 1,000,000, and the ends rise from it to at most 1,000,000
 abbrev pub edgeSuits : ℤ → RawStep → Bool
@@ -96,21 +107,21 @@ priceSuits top p s = leZ p (s .price) && leZ (s .price) top
 abbrev pub pricesGood : ℤ → ℤ → RawCurve → Bool
 pricesGood low top c = chain (priceSuits top) (λ s. s .price) low (rawSteps c)
 
--- the lowest number that applies to a curve with prices from low to top
-unfoldable pub curveRefusal : ℤ → ℤ → RawCurve → ℕ
-curveRefusal low top c = unless (countGood c) 1 then unless (edgesGood c) 2 then unless (pricesGood low top c) 3
+-- the lowest number that applies to a curve of so many steps at most, with prices from low to top
+unfoldable pub curveRefusal : ℕ → ℤ → ℤ → RawCurve → ℕ
+curveRefusal most low top c = unless (countGood most c) 1 then unless (edgesGood c) 2 then unless (pricesGood low top c) 3
 
 -- a bid, by month, and a default curve from a pack
 abbrev pub bidRefusal : ℕ → RawCurve → ℕ
-bidRefusal month c = curveRefusal lowestBid (highestBid month) c
+bidRefusal month c = curveRefusal mostBidSteps lowestBid (highestBid month) c
 
 abbrev pub defaultRefusal : RawCurve → ℕ
-defaultRefusal c = curveRefusal lowestDefault highestDefault c
+defaultRefusal c = curveRefusal mostSteps lowestDefault highestDefault c
 
 -- ---- the curve of what was read
 -- the curve that starts at s and has the steps l, with blank steps past them
 abbrev pub curveWith : ℕ → List Step → Curve
-curveWith s l = record { start = s; count = length l; steps = padded 10 blankStep l }
+curveWith s l = record { start = s; count = length l; steps = padded mostSteps blankStep l }
 
 unfoldable pub blankCurve : Curve
 blankCurve = curveWith 0 []
@@ -130,11 +141,11 @@ abbrev pub refusedWith : Refusal → Checked
 refusedWith r = record { outcome = Refused r; curve = blankCurve }
 
 -- the curve that a check hands back
-abbrev pub checkedCurve : ℤ → ℤ → RawCurve → Curve
-checkedCurve low top c = unlessRefused (curveRefusal low top c) (curveOf c)
+abbrev pub checkedCurve : ℕ → ℤ → ℤ → RawCurve → Curve
+checkedCurve most low top c = unlessRefused (curveRefusal most low top c) (curveOf c)
 
 abbrev pub checkedBid : ℕ → RawCurve → Curve
-checkedBid month c = checkedCurve lowestBid (highestBid month) c
+checkedBid month c = checkedCurve mostBidSteps lowestBid (highestBid month) c
 
 abbrev pub checkedDefault : RawCurve → Curve
-checkedDefault c = checkedCurve lowestDefault highestDefault c
+checkedDefault c = checkedCurve mostSteps lowestDefault highestDefault c

@@ -4,7 +4,7 @@ use Prim.Native.Nat.{ℕ, _<_, _≤_}
 use lib.IntN.{ℤ}
 use lib.ListN.{length}
 use lib.Signed.{_≤ℤ_}
-use Rattle.rules_curve.specs.Curves.{stepsOf}
+use Rattle.rules_curve.specs.Curves.{mostSteps, mostBidSteps, stepsOf}
 use Rattle.rules_curve.specs.declared.Step.{Step}
 use Rattle.rules_curve.specs.declared.Curve.{Curve}
 
@@ -23,8 +23,13 @@ abbrev pub NeverFalling : List Step → Type 0
 NeverFalling [] = Unit {0}
 NeverFalling (s ∷ l) = NeverBelow (s .price) l
 
--- what the checks 1 to 3 leave: "Start and ends strictly rise; prices never fall", and there are at most 10 steps
+-- what the checks 1 to 3 leave: "Start and ends strictly rise; prices never fall", and there are at most 11 steps
 pub record Sound (c : Curve) : Type 0 where
-  pub few : length (stepsOf c) ≤ 10
+  pub few : length (stepsOf c) ≤ mostSteps
   pub rising : Rising (c .start) (stepsOf c)
   pub never-falling : NeverFalling (stepsOf c)
+
+-- what they leave of a bid, which has at most 10
+pub record SoundBid (c : Curve) : Type 0 where
+  pub few : length (stepsOf c) ≤ mostBidSteps
+  pub sound : Sound c

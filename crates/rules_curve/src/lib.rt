@@ -68,7 +68,10 @@ pub struct Checked {
 }
 
 impl Curve {
-    pub const MAX_STEPS: usize = 10;
+    // The room of any curve, and the most steps of a default curve.
+    pub const MAX_STEPS: usize = 11;
+
+    pub const MAX_BID_STEPS: usize = 10;
 
     pub const MAX_QUANTITY: i64 = 1_000_000;
 

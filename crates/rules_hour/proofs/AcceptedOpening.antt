@@ -13,8 +13,8 @@ use Rattle.rules_number.proofs.OverLaws.{both, all-at}
 use Rattle.rules_number.proofs.ExactLaws.{leZ-exactly, ltZ-exactly, and-exactly}
 use Rattle.rules_curve.specs.Refusals.{unless, _then_, eachTo}
 use Rattle.rules_curve.specs.Curves.{bidRefusal, lowestBid, highestBid, lowestDefault, highestDefault}
-use Rattle.rules_curve.specs.Meaning.{Sound}
-use Rattle.rules_curve.proofs.CheckLaws.{then-both, unless-holds, each-at, checked-sound}
+use Rattle.rules_curve.specs.Meaning.{Sound, SoundBid}
+use Rattle.rules_curve.proofs.CheckLaws.{then-both, unless-holds, each-at, bid-checked, default-checked}
 use Rattle.rules_mitigation.specs.Meaning.{Inside}
 use Rattle.rules_cost.proofs.DefaultCurve.{cost-sound}
 use Rattle.rules_hour.specs.Hours.{uncut, freshStanding, blankHour, noRow, rowAt, floorIn}
@@ -31,7 +31,7 @@ use Rattle.rules_opening.specs.Resources.{blankRow, defaultBy, liesInside, reso
 -- a default curve that passes its checks is sound
 default-sound-by : (s : Source) (x : Resource) → sourceRefusal s x ≡ 0 → Sound (defaultBy s x)
 default-sound-by source.Costs x e = cost-sound (x .costs) e
-default-sound-by source.Pack x e = checked-sound lowestDefault highestDefault (x .pack) e
+default-sound-by source.Pack x e = default-checked lowestDefault highestDefault (x .pack) e
 
 -- "A refusal returns its number alone": an opening that is refused hands back the hour of no resources
 pub refused-opening : (o : Opening) → 0 < openingRefusal o → openedHour o ≡ record { market = blankMarket; rows = replicate 64 blankRow; standing = record { accepted = 0; floors = replicate 64 uncut } }
@@ -88,8 +88,8 @@ module _ (o : Opening) (accepted : openingRefusal o ≡ 0) where
         (z .0, z .1, unless-holds (liesInside (submitted o r) (defaultOf o r)) 10 (y .1))
 
     -- the submitted bid has at most ten steps, rises and never falls
-    pub bid-sound : Sound (submitted o r)
-    bid-sound = checked-sound lowestBid (highestBid (natOf (o .month))) (resourceAt o r .bid) (resource-checks .0)
+    pub bid-sound : SoundBid (submitted o r)
+    bid-sound = bid-checked lowestBid (highestBid (natOf (o .month))) (resourceAt o r .bid) (resource-checks .0)
 
     -- so does its default curve
     pub default-sound : Sound (defaultOf o r)

@@ -1,15 +1,15 @@
 -- The curve of a resource in an hour that calls on an accepted opening leave (paper 01, Interval and hour):
--- "Neighbouring steps with one price are merged, in the opened hour too; 19 steps always suffice."
+-- "Neighbouring steps with one price are merged, in the opened hour too; 19 steps always suffice", 20 since a default curve may have 11.
 use mathlib.Core.List.{List, []}
 use mathlib.Core.Path.{_≡_, refl, ap, _∙_, subst}
 use Prim.Native.Nat.{ℕ, _≤_, _<_}
 use Rattle.rules_curve.specs.declared.Step.{Step}
-use Rattle.rules_mitigation.specs.Mitigation.{segmentsN, joined, blankMitigated, mitigated, usedSteps}
+use Rattle.rules_mitigation.specs.Mitigation.{segmentsN, joined, mostMitigatedSteps, blankMitigated, mitigated, usedSteps}
 use Rattle.rules_mitigation.specs.Meaning.{IsMitigated}
 use Rattle.rules_mitigation.specs.declared.Mitigated.{Mitigated}
 use Rattle.rules_mitigation.specs.declared.FloorPrice.{FloorPrice}
 use Rattle.rules_mitigation.specs.declared.FloorPrice.the-variants.{Uncut}
-use Rattle.rules_mitigation.proofs.MitigatedCurve.{mitigated-is, mitigated-only, nineteen-suffice}
+use Rattle.rules_mitigation.proofs.MitigatedCurve.{mitigated-is, mitigated-only, twenty-suffice}
 use Rattle.rules_interval.specs.declared.Interval.{Interval}
 use Rattle.rules_hour.specs.Hours.{uncut, noRow, rowCurve, floorIn, curveIn, hourAfterAll}
 use Rattle.rules_opening.specs.Openings.{openingRefusal}
@@ -27,11 +27,11 @@ unfolding mitigated segmentsN joined
 no-row = refl
 
 -- What the curve c of resource r is where its floor price is k: the bid with each quantity at the smaller of its price and its cap, its prices never falling and
--- no two neighbours with one price; it is the only such curve, and 19 steps suffice.
+-- no two neighbours with one price; it is the only such curve, and 20 steps suffice.
 pub record Shape (o : Opening) (r : ℕ) (k : FloorPrice) (c : Mitigated) : Type 0 where
   pub is : IsMitigated k (submitted o r) (defaultOf o r) (c .start) (usedSteps c)
   pub only : (p : ℕ) (l : List Step) → IsMitigated k (submitted o r) (defaultOf o r) p l → l ≡ usedSteps c
-  pub nineteen : c .count ≤ 19
+  pub twenty : c .count ≤ mostMitigatedSteps
 
 module _ (o : Opening) (r : ℕ) (accepted : openingRefusal o ≡ 0) (l : r < o .resources) where
   -- the curve of the bid with a floor price
@@ -44,7 +44,7 @@ module _ (o : Opening) (r : ℕ) (accepted : openingRefusal o ≡ 0) (l : r < o 
       (record {
         is = mitigated-is k (submitted o r) (defaultOf o r) b d i;
         only = mitigated-only k (submitted o r) (defaultOf o r) b d i;
-        nineteen = nineteen-suffice k (submitted o r) (defaultOf o r) b d i;
+        twenty = twenty-suffice k (submitted o r) (defaultOf o r) b d i;
       })
 
   -- the curve in an hour that keeps bids and default curves

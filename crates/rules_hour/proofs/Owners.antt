@@ -73,7 +73,7 @@ module _ (o : Opening) (accepted : openingRefusal o ≡ 0) (r : ℕ) (l : r < o 
         record {
           is = steps;
           only = λ p m h. steps-only (λ q x y. least-only) h steps;
-          nineteen = s .nineteen;
+          twenty = s .twenty;
           capping = λ q i. capping-exactly o accepted calls sound r q (priced q i .default);
           one-each = λ q i. caps-one-each o accepted calls sound r q (priced q i .default);
           C = λ v. component (marketOf o) v r;

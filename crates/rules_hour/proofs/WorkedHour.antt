@@ -8,7 +8,7 @@ use lib.ListN.{replicate}
 use Rattle.rules_number.specs.Order.{inRange}
 use Rattle.rules_number.specs.Over.{sumTo, allTo, listed, those, sumOver, padded, upTo}
 use Rattle.rules_curve.specs.Refusals.{eachTo}
-use Rattle.rules_curve.specs.Curves.{priceAt, chain, curveRefusal, curveOf}
+use Rattle.rules_curve.specs.Curves.{mostSteps, priceAt, chain, curveRefusal, curveOf}
 use Rattle.rules_curve.specs.declared.RawCurve.{RawCurve}
 use Rattle.rules_mitigation.specs.Mitigation.{segmentsN, joined, joinedAfter, mitigated, usedSteps}
 use Rattle.rules_interval.specs.Intervals.{allWithin, factorsGood, outputsGood, intervalRefusal}
@@ -27,7 +27,7 @@ use Rattle.rules_opening.specs.Resources.{liesInside, resourceRefusal, rowOf}
 
 -- one step from 0 to 100 at price p
 abbrev level : ℕ → RawCurve
-level p = record { start = pos 0; count = 1; steps = padded 10 (rawTo 0 0) (rawTo 100 p ∷ []) }
+level p = record { start = pos 0; count = 1; steps = padded mostSteps (rawTo 0 0) (rawTo 100 p ∷ []) }
 
 -- a resource of portfolio p with these prices of bid and default curve
 abbrev packed : ℕ → ℕ → ℕ → Resource

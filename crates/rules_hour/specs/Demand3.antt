@@ -20,7 +20,7 @@ use Rattle.rules_curve.specs.declared.Step.{Step}
 use Rattle.rules_curve.specs.declared.Curve.{Curve}
 use Rattle.rules_curve.specs.declared.Quote.{Quote}
 use Rattle.rules_curve.specs.declared.Quote.the-variants as answer
-use Rattle.rules_mitigation.specs.Mitigation.{usedSteps}
+use Rattle.rules_mitigation.specs.Mitigation.{mostMitigatedSteps, usedSteps}
 use Rattle.rules_mitigation.specs.Meaning.{Apart}
 use Rattle.rules_mitigation.specs.declared.Mitigated.{Mitigated}
 use Rattle.rules_mitigation.specs.declared.FloorPrice.{FloorPrice}
@@ -249,8 +249,8 @@ CappedSteps o r before accepted p l = OverBid o r (λ q x. IsLeast (before q) (c
 pub record Capped (o : Opening) (r : ℕ) (before : ℕ → ℤ) (accepted : List Interval) (c : Mitigated) : Type 0 where
   pub is : CappedSteps o r before accepted (c .start) (usedSteps c)
   pub only : (p : ℕ) (l : List Step) → CappedSteps o r before accepted p l → (p ≡ c .start) × (l ≡ usedSteps c)
-  -- "19 steps always suffice"
-  pub nineteen : c .count ≤ 19
+  -- "19 steps always suffice", 20 since a default curve may have 11
+  pub twenty : c .count ≤ mostMitigatedSteps
   -- "one cap for each accepted interval of the list in which .., and no other"
   pub capping : (q : ℕ) → InBid o r q → (y : ℤ) → List·Memᴰ y (capsOf o accepted r q) ↔ Cap o accepted r q y
   pub one-each : (q : ℕ) → InBid o r q → OneEach o r q accepted (capsOf o accepted r q)

@@ -19,7 +19,7 @@ use Rattle.rules_curve.specs.Curves.{priceAt}
 use Rattle.rules_curve.specs.Refusals.{unless}
 use Rattle.rules_curve.specs.declared.Step.{Step}
 use Rattle.rules_curve.proofs.CheckLaws.{unless-holds}
-use Rattle.rules_mitigation.specs.Mitigation.{capped, blankMitigated, usedSteps}
+use Rattle.rules_mitigation.specs.Mitigation.{capped, mostMitigatedSteps, blankMitigated, usedSteps}
 use Rattle.rules_mitigation.specs.declared.FloorPrice.{FloorPrice}
 use Rattle.rules_mitigation.specs.declared.FloorPrice.the-variants.{Uncut, Cut}
 use Rattle.rules_interval.specs.declared.Interval.{Interval}
@@ -265,10 +265,10 @@ module _ (o : Opening) (accepted : openingRefusal o ≡ 0) (calls : List Request
         ap (λ (h : Hour). rowCurve (rowAt h r) (floorIn h r))
         (subst (λ (ps : List (List Request)). hourOf o calls .hour ≡ hourOf o (last [] ps) .hour) four (from-opening r l .hour))
 
-    -- "Room of 19 steps must be enough."
-    pub hour-bid-nineteen : hourBidIn (hourOf o calls) r .count ≤ 19
+    -- "Room of 19 steps must be enough", 20 since a default curve may have 11.
+    pub hour-bid-twenty : hourBidIn (hourOf o calls) r .count ≤ mostMitigatedSteps
     unfolding hourBidIn curveIn
-    hour-bid-nineteen = own .nineteen
+    hour-bid-twenty = own .twenty
 
 -- "A refusal returns its number alone"
 pub refused-bid : (h : RealTimeHour) (r n : ℕ) → hourBidRefusal h ≡ suc n → hourBidOf h r ≡ blankMitigated

@@ -1,4 +1,4 @@
--- Hours whose bids are worked through, by computation on the definitions: Case T's resource, with L = lmp - 250000 + 100, and one whose hour bid has 19 steps.
+-- Hours whose bids are worked through, by computation on the definitions: Case T's resource, with L = lmp - 250000 + 100, and one whose hour bid has 20 steps.
 use mathlib.Core.List.{List, [], _∷_, _++_}
 use mathlib.Core.Path.{_≡_, refl}
 use Prim.Native.Nat.{ℕ}
@@ -63,7 +63,7 @@ three = at 749900 ∷ at 650000 ∷ at 700000 ∷ []
 abbrev four : List Request
 four = three ++ (at 749900 ∷ [])
 
--- ---- 19 steps: ten steps of bid and ten of default curve that end by turns, their prices rising by turns, and an L below them all
+-- ---- 20 steps: ten steps of bid and eleven of default curve that end by turns up to the last, their prices rising by turns, and an L below them all
 abbrev raw : ℕ → ℕ → RawStep
 raw end price = record { end = pos end; price = pos price }
 
@@ -75,18 +75,10 @@ by-turns = record {
   resources = 1;
   list = padded 64 noResource (record {
     portfolio = pos 0;
-    bid = record {
-      start = pos 10;
-      count = 10;
-      steps = raw 30 100 ∷ raw 50 200 ∷ raw 70 300 ∷ raw 90 400 ∷ raw 110 500 ∷ raw 130 600 ∷ raw 150 700 ∷ raw 170 800 ∷ raw 190 900 ∷ raw 200 1000 ∷ [];
-    };
+    bid = record { start = pos 0; count = 10; steps = raw 10 10 ∷ raw 20 30 ∷ raw 30 50 ∷ raw 40 70 ∷ raw 50 90 ∷ raw 60 110 ∷ raw 70 130 ∷ raw 80 150 ∷ raw 90 170 ∷ raw 100 190 ∷ [] };
     source = source.Pack;
     costs = noCosts;
-    pack = record {
-      start = pos 0;
-      count = 10;
-      steps = raw 20 50 ∷ raw 40 150 ∷ raw 60 250 ∷ raw 80 350 ∷ raw 100 450 ∷ raw 120 550 ∷ raw 140 650 ∷ raw 160 750 ∷ raw 180 850 ∷ raw 200 950 ∷ [];
-    };
+    pack = record { start = pos 0; count = 11; steps = raw 5 0 ∷ raw 15 20 ∷ raw 25 40 ∷ raw 35 60 ∷ raw 45 80 ∷ raw 55 100 ∷ raw 65 120 ∷ raw 75 140 ∷ raw 85 160 ∷ raw 95 180 ∷ raw 100 200 ∷ [] };
   } ∷ []);
 }
 
@@ -104,8 +96,8 @@ pub record Worked : Type 0 where
   pub passes : bidAfter (four ++ (pass (intervalAt 600000) ∷ dear ∷ at 600000 ∷ [])) ≡ bidAfter four
   -- a resource that the hour doesn't have: a blank curve, and 20 before it
   pub no-resource : usedSteps (hourBidOf (hourOf openingT four) 64) ≡ []
-  -- 19 steps are reached
-  pub nineteen : hourBidIn (hourOf by-turns (at 0 ∷ at 0 ∷ at 0 ∷ at 0 ∷ [])) 0 .count ≡ 19
+  -- 20 steps are reached
+  pub twenty : hourBidIn (hourOf by-turns (at 0 ∷ at 0 ∷ at 0 ∷ at 0 ∷ [])) 0 .count ≡ 20
 
 pub worked : Worked
 unfolding inRange sumTo allTo highestTo listed those sumOver padded upTo eachTo priceAt chain curveRefusal curveOf segmentsN joined joinedAfter mitigated
@@ -125,5 +117,5 @@ worked = record {
   uncut = refl;
   passes = refl;
   no-resource = refl;
-  nineteen = refl;
+  twenty = refl;
 }

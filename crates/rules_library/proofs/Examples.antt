@@ -37,17 +37,17 @@ pub record Worked : Type 0 where
   pub p10-refused : bidRefusal 12 (rawBid (pos 0) 1 over) ≡ 3
   pub p10-taken : bidRefusal 13 (rawBid (pos 0) 1 over) ≡ 0
   -- T's default curve, in slices that have one number more than they need
-  pub answer-t : defaultAnswer (edges 13) (prices 11) costsT ≡ pos 0
-  pub edges-t : edgesAfter (edges 13) (prices 11) costsT ≡ 2 ∷ 10000 ∷ 20000 ∷ 30000 ∷ 0 ∷ 0 ∷ 0 ∷ 0 ∷ 0 ∷ 0 ∷ 0 ∷ 0 ∷ 7 ∷ []
-  pub prices-t : pricesAfter (edges 13) (prices 11) costsT ≡ pos 378402 ∷ pos 488402 ∷ replicate 8 (pos 0) ++ (pos 7 ∷ [])
-  -- 11 edges, or 9 prices, are too few
-  pub few-edges : defaultAnswer (edges 11) (prices 10) costsT ≡ negsuc 0
-  pub few-prices : defaultAnswer (edges 12) (prices 9) costsT ≡ negsuc 0
-  pub few-left : edgesAfter (edges 12) (prices 9) costsT ≡ edges 12
+  pub answer-t : defaultAnswer (edges 14) (prices 12) costsT ≡ pos 0
+  pub edges-t : edgesAfter (edges 14) (prices 12) costsT ≡ 2 ∷ 10000 ∷ 20000 ∷ 30000 ∷ 0 ∷ 0 ∷ 0 ∷ 0 ∷ 0 ∷ 0 ∷ 0 ∷ 0 ∷ 0 ∷ 7 ∷ []
+  pub prices-t : pricesAfter (edges 14) (prices 12) costsT ≡ pos 378402 ∷ pos 488402 ∷ replicate 9 (pos 0) ++ (pos 7 ∷ [])
+  -- 12 edges, or 10 prices, are too few
+  pub few-edges : defaultAnswer (edges 12) (prices 11) costsT ≡ negsuc 0
+  pub few-prices : defaultAnswer (edges 13) (prices 10) costsT ≡ negsuc 0
+  pub few-left : edgesAfter (edges 13) (prices 10) costsT ≡ edges 13
   -- no point at all is refused by number 4, and the slices are left as they were
-  pub refused : defaultAnswer (edges 12) (prices 10) (costsIn 0 [] []) ≡ pos 4
-  pub refused-edges : edgesAfter (edges 12) (prices 10) (costsIn 0 [] []) ≡ edges 12
-  pub refused-prices : pricesAfter (edges 12) (prices 10) (costsIn 0 [] []) ≡ prices 10
+  pub refused : defaultAnswer (edges 13) (prices 11) (costsIn 0 [] []) ≡ pos 4
+  pub refused-edges : edgesAfter (edges 13) (prices 11) (costsIn 0 [] []) ≡ edges 13
+  pub refused-prices : pricesAfter (edges 13) (prices 11) (costsIn 0 [] []) ≡ prices 11
 
 pub worked : Worked
 unfolding inRange allTo highestTo listed padded chain curveRefusal width unlimited incrementalRate fuel greenhouse feePart stepCost withAdder rateAt largestRate stepPrice raisedPrice costCurve mwSuits mwGood heatGood chargesInRange pricesInRange ratesGood costRefusal costsIn defaultAnswer edgesAfter pricesAfter

@@ -1,4 +1,4 @@
--- What noskjerf_default writes: 12 edges and 10 prices, where the costs are accepted, and nothing past them; what a run answers and tells. Assumes nothing.
+-- What noskjerf_default writes: 13 edges and 11 prices, where the costs are accepted, and nothing past them; what a run answers and tells. Assumes nothing.
 use Prim.Native.Nat.{ℕ, zero, suc, _+_, _≤_, _<_}
 use mathlib.Core.Path.{_≡_, refl, ap, _∙_}
 use mathlib.Core.Bool.{Bool, true, false, cond, _&&_}
@@ -11,30 +11,30 @@ use lib.ListN.{length, getD, set, length-map, length-set}
 use lib.Seq.{sets, length-sets, getD-set-same, getD-set-other}
 use Rattle.rules_number.specs.Over.{listed}
 use Rattle.rules_number.proofs.OverLaws.{both, listed-length, padded-length}
-use Rattle.rules_curve.specs.Curves.{blankStep}
+use Rattle.rules_curve.specs.Curves.{mostSteps, blankStep}
 use Rattle.rules_curve.proofs.CheckLaws.{then-both, unless-holds}
-use Rattle.rules_cost.specs.Costs.{stepCount, costStep, costCurve, pointsGood, costRefusal}
+use Rattle.rules_cost.specs.Costs.{mostPoints, stepCount, costStep, costCurve, pointsGood, costRefusal}
 use Rattle.rules_cost.specs.declared.Costs.{Costs}
 use Rattle.rules_run.specs.Run.{Ended, runRoom, ranWithin, ranTo}
 use Rattle.rules_library.specs.Answers.{ranNumber, toldRoom, toldAnswer, toldPage, toldAfter}
-use Rattle.rules_library.specs.Slices.{edgesOf, pricesOf, hasRoom, defaultAnswer, ifWritten, edgesAfter, pricesAfter}
+use Rattle.rules_library.specs.Slices.{edgeCount, priceCount, edgesOf, pricesOf, hasRoom, defaultAnswer, ifWritten, edgesAfter, pricesAfter}
 
 module _ (c : Costs) (z : costRefusal c ≡ 0) where
-  few-steps : stepCount c ≤ 10
+  few-steps : stepCount c ≤ mostSteps
   unfolding costRefusal
   few-steps =
       let p = unless-holds (pointsGood c) 3 (then-both _ _ (then-both _ _ (then-both _ _ (then-both _ _ z .0) .0) .0) .0) in
-      omega (arith, leb-true (c .count) 11 (both (leb 2 (c .count)) (leb (c .count) 11) p .1))
+      omega (arith, leb-true (c .count) mostPoints (both (leb 2 (c .count)) (leb (c .count) mostPoints) p .1))
 
-  ten-steps : length (costCurve c .steps) ≡ 10
+  all-steps : length (costCurve c .steps) ≡ mostSteps
   unfolding costCurve
-  ten-steps = padded-length 10 blankStep (listed (costStep c) (stepCount c)) (omega (arith, few-steps, listed-length (costStep c) (stepCount c)))
+  all-steps = padded-length mostSteps blankStep (listed (costStep c) (stepCount c)) (omega (arith, few-steps, listed-length (costStep c) (stepCount c)))
 
-  pub edges-size : length (edgesOf (costCurve c)) ≡ 12
-  edges-size = simp length-map (omega (arith, ten-steps))
+  pub edges-size : length (edgesOf (costCurve c)) ≡ edgeCount
+  edges-size = simp length-map (omega (arith, all-steps))
 
-  pub prices-size : length (pricesOf (costCurve c)) ≡ 10
-  prices-size = simp length-map ten-steps
+  pub prices-size : length (pricesOf (costCurve c)) ≡ priceCount
+  prices-size = simp length-map all-steps
 
 -- a cell past a run of stores
 past : {A : Type 0} (d : A) (l : List A) (i : ℕ) (a : List A) (k : ℕ) → i + length a ≤ k → getD (sets l i a) k d ≡ getD l k d
@@ -61,11 +61,11 @@ module _ (edges : List ℕ) (prices : List ℤ) (c : Costs) where
       go (pos (suc n)) e = refl
       go (negsuc n) e = refl
 
-  pub edges-past : (k : ℕ) → 12 ≤ k → getD (edgesAfter edges prices c) k 0 ≡ getD edges k 0
+  pub edges-past : (k : ℕ) → edgeCount ≤ k → getD (edgesAfter edges prices c) k 0 ≡ getD edges k 0
   unfolding edgesAfter
   edges-past k h = either 0 k (sets edges 0 (edgesOf (costCurve c))) edges (λ z. past 0 edges 0 (edgesOf (costCurve c)) k (omega (arith, edges-size c z)))
 
-  pub prices-past : (k : ℕ) → 10 ≤ k → getD (pricesAfter edges prices c) k (pos 0) ≡ getD prices k (pos 0)
+  pub prices-past : (k : ℕ) → priceCount ≤ k → getD (pricesAfter edges prices c) k (pos 0) ≡ getD prices k (pos 0)
   unfolding pricesAfter
   prices-past k h = either (pos 0) k (sets prices 0 (pricesOf (costCurve c))) prices (λ z. past (pos 0) prices 0 (pricesOf (costCurve c)) k (omega (arith, prices-size c z)))
 

@@ -10,9 +10,10 @@ use Rattle.rules_number.specs.Over.{listed}
 use Rattle.rules_curve.specs.declared.RawStep.{RawStep}
 use Rattle.rules_curve.specs.declared.RawCurve.{RawCurve}
 use Rattle.rules_curve.specs.declared.Curve.{Curve}
-use Rattle.rules_cost.specs.Costs.{costRefusal, costCurve}
+use Rattle.rules_cost.specs.Costs.{mostPoints, costRefusal, costCurve}
 use Rattle.rules_cost.specs.declared.Point.{Point}
 use Rattle.rules_cost.specs.declared.Costs.{Costs}
+use Rattle.rules_curve.specs.Curves.{mostSteps}
 
 -- the number at an index; past the end it is 0
 abbrev pub cellAt : List ℤ → ℕ → ℤ
@@ -23,9 +24,9 @@ cellAt l i = getD l i (pos 0)
 abbrev pub rawStepAt : List ℤ → ℕ → RawStep
 rawStepAt l k = record { end = cellAt l (2 * k); price = cellAt l (2 * k + 1) }
 
--- a curve has room for ten
+-- a curve has room for eleven
 abbrev pub stepsIn : List ℤ → List RawStep
-stepsIn l = listed (rawStepAt l) 10
+stepsIn l = listed (rawStepAt l) mostSteps
 
 -- the bid with that start, count and list
 abbrev pub rawBid : ℤ → ℕ → List ℤ → RawCurve
@@ -38,7 +39,7 @@ rawPointAt l k = record { mw = cellAt l (2 * k); heat = cellAt l (2 * k + 1) }
 
 -- costs have room for eleven
 abbrev pub pointsIn : List ℤ → List Point
-pointsIn l = listed (rawPointAt l) 11
+pointsIn l = listed (rawPointAt l) mostPoints
 
 -- the costs with that count, list of points and list of charges
 unfoldable pub costsIn : ℕ → List ℤ → List ℤ → Costs
@@ -62,9 +63,16 @@ edgesOf c = c .count ∷ c .start ∷ map (λ s. s .end) (c .steps)
 abbrev pub pricesOf : Curve → List ℤ
 pricesOf c = map (λ s. s .price) (c .steps)
 
+-- how many numbers they are: count, start and each end; each price
+abbrev pub edgeCount : ℕ
+edgeCount = 2 + mostSteps
+
+abbrev pub priceCount : ℕ
+priceCount = mostSteps
+
 -- whether two lent slices have room for them
 abbrev pub hasRoom : List ℕ → List ℤ → Bool
-hasRoom edges prices = leb 12 (length edges) && leb 10 (length prices)
+hasRoom edges prices = leb edgeCount (length edges) && leb priceCount (length prices)
 
 -- the answer: the number of the refusal, 0 where there is none, or -1 where the room is too small
 unfoldable pub defaultAnswer : List ℕ → List ℤ → Costs → ℤ

@@ -1,8 +1,9 @@
 -- Worked examples of paper 01, by computation (Case T's curve; Marked for proof: P8, P9).
-use mathlib.Core.List.{[], _∷_}
+use mathlib.Core.List.{[], _∷_, _++_}
 use mathlib.Core.Path.{_≡_, refl}
+use Prim.Native.Nat.{_+_, _*_}
 use lib.IntN.{pos}
-use Rattle.rules_number.specs.Over.{padded}
+use Rattle.rules_number.specs.Over.{listed, padded}
 use Rattle.rules_curve.specs.Curves.{stepTo, curveWith}
 use Rattle.rules_mitigation.specs.Mitigation.{capped, lowered, segmentsN, joined, joinedAfter, mitigated, usedSteps}
 use Rattle.rules_curve.specs.declared.Curve.{Curve}
@@ -19,6 +20,13 @@ defaultT = curveWith 10000 (stepTo 20000 (pos 378402) ∷ stepTo 30000 (pos 4884
 abbrev level : Curve
 level = curveWith 0 (stepTo 5 (pos 7) ∷ stepTo 10 (pos 7) ∷ [])
 
+-- a bid of ten steps and a default curve of eleven, whose ends alternate up to the last
+abbrev ten : Curve
+ten = curveWith 0 (listed (λ i. stepTo (10 * i + 10) (pos (20 * i + 10))) 10)
+
+abbrev eleven : Curve
+eleven = curveWith 0 (listed (λ i. stepTo (10 * i + 5) (pos (20 * i))) 10 ++ (stepTo 100 (pos 200) ∷ []))
+
 pub record Mitigations : Type 0 where
   -- Case T's curve, L = 350100
   pub curve-T : usedSteps (mitigated (Cut (pos 350100)) bidT defaultT) ≡ stepTo 15000 (pos 300000) ∷ stepTo 20000 (pos 378402) ∷ stepTo 30000 (pos 488402) ∷ []
@@ -29,13 +37,16 @@ pub record Mitigations : Type 0 where
   pub p9-then : capped (lowered (lowered Uncut (Cut (pos 500000))) (Cut (pos 350100))) (pos 900000) (pos 378402) ≡ pos 378402
   -- neighbouring steps with one price are merged, also without a cut
   pub merged : usedSteps (mitigated Uncut level level) ≡ stepTo 10 (pos 7) ∷ []
+  -- no fewer than 20 steps suffice
+  pub twenty-reached : usedSteps (mitigated (Cut (pos 0)) ten eleven) ≡ listed (λ i. stepTo (5 * i + 5) (pos (10 * i))) 20
 
 pub examples : Mitigations
-unfolding padded segmentsN joined joinedAfter mitigated
+unfolding padded listed segmentsN joined joinedAfter mitigated
 examples = record {
   curve-T = refl;
   p8 = refl;
   p9-first = refl;
   p9-then = refl;
   merged = refl;
+  twenty-reached = refl;
 }

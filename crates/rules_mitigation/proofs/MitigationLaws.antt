@@ -7,13 +7,14 @@ use Prim.Native.Nat.{ℕ, _+_, _<_, _≤_}
 use native.Mathlib.Nat.{le-refl}
 use native.Mathlib.Omega.{arith}
 use lib.IntN.{ℤ}
-use lib.ListN.{length}
+use lib.ListN.{length, length-take}
 use Rattle.rules_number.specs.Order.{eqZ, minZ, maxZ}
 use Rattle.rules_number.proofs.OrderLaws.{eqZ-same, eqZ-cases, caps-join}
 use Rattle.rules_number.proofs.OverLaws.{le-or-lt, padded-used}
+use Rattle.rules_curve.proofs.CheckLaws.{bid-steps}
 use Rattle.rules_curve.proofs.PriceLaws.{price-here, price-later, within-end, rising-end}
-use Rattle.rules_curve.specs.Curves.{priceAt, stepTo, blankStep, stepsOf, endOf}
-use Rattle.rules_mitigation.specs.Mitigation.{capped, lowered, segments, joined, joinedAfter, mitigatedSteps, mitigated, usedSteps}
+use Rattle.rules_curve.specs.Curves.{mostSteps, mostBidSteps, priceAt, stepTo, blankStep, stepsOf, bidSteps, endOf}
+use Rattle.rules_mitigation.specs.Mitigation.{capped, lowered, segments, joined, joinedAfter, mitigatedSteps, mostMitigatedSteps, mitigated, usedSteps}
 use Rattle.rules_curve.specs.Meaning.{Rising}
 use Rattle.rules_mitigation.specs.Meaning.{Apart}
 use Rattle.rules_curve.specs.declared.Step.{Step}
@@ -23,13 +24,17 @@ use Rattle.rules_mitigation.specs.declared.FloorPrice.the-variants.{Uncu
 use Rattle.rules_mitigation.proofs.SegmentLaws.{segments-length, joined-same, joined-other, merged-price, segments-end, joined-length, joined-end, reaches-end, segments-none}
 
 module _ (floor : FloorPrice) (bid default : Curve) where
-  -- 19 steps suffice
-  pub mitigated-length : length (stepsOf bid) ≤ 10 → length (stepsOf default) ≤ 10 → mitigated floor bid default .count ≤ 19
+  -- 20 steps suffice, whatever the bid
+  pub mitigated-length : length (stepsOf default) ≤ mostSteps → mitigated floor bid default .count ≤ mostMitigatedSteps
   unfolding mitigated
-  mitigated-length b r =
-      let bs = stepsOf bid in
+  mitigated-length r =
+      let bs = bidSteps bid in
       let ds = stepsOf default in
-      omega (arith, joined-length (segments (capped floor) (bid .start) bs ds), segments-length (capped floor) (length bs + length ds) (bid .start) bs ds)
+      omega (arith, length-take mostBidSteps (stepsOf bid), joined-length (segments (capped floor) (bid .start) bs ds), segments-length (capped floor) (length bs + length ds) (bid .start) bs ds)
+
+  -- those of a bid of at most ten steps
+  pub mitigated-all : length (stepsOf bid) ≤ mostBidSteps → mitigatedSteps floor bid default ≡ joined (segments (capped floor) (bid .start) (stepsOf bid) (stepsOf default))
+  mitigated-all few = rw (bid-steps bid few)
 
   pub mitigated-start : mitigated floor bid default .start ≡ bid .start
   unfolding mitigated
@@ -37,14 +42,14 @@ module _ (floor : FloorPrice) (bid default : Curve) where
 
   pub mitigated-used : usedSteps (mitigated floor bid default) ≡ mitigatedSteps floor bid default
   unfolding mitigated
-  mitigated-used = padded-used 19 blankStep (mitigatedSteps floor bid default)
+  mitigated-used = padded-used mostMitigatedSteps blankStep (mitigatedSteps floor bid default)
 
-  module _ (rising : Rising (bid .start) (stepsOf bid)) (begins : default .start ≤ bid .start)
+  module _ (few : length (stepsOf bid) ≤ mostBidSteps) (rising : Rising (bid .start) (stepsOf bid)) (begins : default .start ≤ bid .start)
       (covered : endOf (bid .start) (stepsOf bid) ≤ endOf (default .start) (stepsOf default)) where
     -- the curve ends where its bid does
     pub mitigated-end : endOf (bid .start) (mitigatedSteps floor bid default) ≡ endOf (bid .start) (stepsOf bid)
     mitigated-end =
-        joined-end (bid .start) (segments (capped floor) (bid .start) (stepsOf bid) (stepsOf default))
+        ap (endOf (bid .start)) (mitigated-all few) ∙ joined-end (bid .start) (segments (capped floor) (bid .start) (stepsOf bid) (stepsOf default))
         ∙ go (stepsOf bid) (stepsOf default) rising covered
       where
         go : (bs ds : List Step) → Rising (bid .start) bs → endOf (bid .start) bs ≤ endOf (default .start) ds
@@ -57,7 +62,7 @@ module _ (floor : FloorPrice) (bid default : Curve) where
     pub mitigated-price : (q : ℕ) → bid .start ≤ q → q < endOf (bid .start) (stepsOf bid)
         → priceAt (mitigatedSteps floor bid default) q ≡ capped floor (priceAt (stepsOf bid) q) (priceAt (stepsOf default) q)
     mitigated-price q h k =
-        merged-price (capped floor) (bid .start) (stepsOf bid) (stepsOf default) q rising h
+        ap (λ (l : List Step). priceAt l q) (mitigated-all few) ∙ merged-price (capped floor) (bid .start) (stepsOf bid) (stepsOf default) q rising h
         (within-end (bid .start) (stepsOf bid) q h k)
         (within-end (default .start) (stepsOf default) q (omega arith) (omega arith))
 
@@ -71,14 +76,14 @@ capped-again floor Uncut b d = refl
 capped-again floor (Cut l) b d = capped-lowered floor l b d
 
 -- one interval: each quantity's price becomes the smaller of its present price and its cap, or stays
-module _ (floor k : FloorPrice) (bid default : Curve) (rising : Rising (bid .start) (stepsOf bid)) (begins : default .start ≤ bid .start)
+module _ (floor k : FloorPrice) (bid default : Curve) (few : length (stepsOf bid) ≤ mostBidSteps) (rising : Rising (bid .start) (stepsOf bid)) (begins : default .start ≤ bid .start)
     (covered : endOf (bid .start) (stepsOf bid) ≤ endOf (default .start) (stepsOf default)) where
   pub cut-price : (q : ℕ) → bid .start ≤ q → q < endOf (bid .start) (stepsOf bid)
       → priceAt (mitigatedSteps (lowered floor k) bid default) q ≡ capped k (priceAt (mitigatedSteps floor bid default) q) (priceAt (stepsOf default) q)
   cut-price q h z =
-      mitigated-price (lowered floor k) bid default rising begins covered q h z
+      mitigated-price (lowered floor k) bid default few rising begins covered q h z
       ∙ capped-again floor k (priceAt (stepsOf bid) q) (priceAt (stepsOf default) q)
-      ∙ ap (λ (x : ℤ). capped k x (priceAt (stepsOf default) q)) (sym (mitigated-price floor bid default rising begins covered q h z))
+      ∙ ap (λ (x : ℤ). capped k x (priceAt (stepsOf default) q)) (sym (mitigated-price floor bid default few rising begins covered q h z))
 
 pub apart-later : (s : Step) (l : List Step) → Apart (s ∷ l) → Apart l
 apart-later s [] a = tt

@@ -7,7 +7,7 @@ use lib.IntN.{ℤ}
 use lib.ListN.{length, take}
 use Rattle.rules_number.specs.Order.{minZ, maxZ, eqZ}
 use Rattle.rules_number.specs.Over.{padded}
-use Rattle.rules_curve.specs.Curves.{stepTo, blankStep, stepsOf}
+use Rattle.rules_curve.specs.Curves.{stepTo, blankStep, stepsOf, bidSteps}
 use Rattle.rules_curve.specs.declared.Step.{Step}
 use Rattle.rules_curve.specs.declared.Curve.{Curve}
 use Rattle.rules_mitigation.specs.declared.Mitigated.{Mitigated}
@@ -56,11 +56,15 @@ joined (s ∷ l) = joinedAfter s l
 
 -- the steps of a bid after its cuts
 abbrev pub mitigatedSteps : FloorPrice → Curve → Curve → List Step
-mitigatedSteps floor bid default = joined (segments (capped floor) (bid .start) (stepsOf bid) (stepsOf default))
+mitigatedSteps floor bid default = joined (segments (capped floor) (bid .start) (bidSteps bid) (stepsOf default))
+
+-- the most steps of a mitigated curve, which is its room
+abbrev pub mostMitigatedSteps : ℕ
+mostMitigatedSteps = 20
 
 -- the curve with the steps l, with blank steps past them
 abbrev pub mitigatedOf : ℕ → List Step → Mitigated
-mitigatedOf s l = record { start = s; count = length l; steps = padded 19 blankStep l }
+mitigatedOf s l = record { start = s; count = length l; steps = padded mostMitigatedSteps blankStep l }
 
 -- the curve with no step
 abbrev pub blankMitigated : Mitigated

@@ -15,5 +15,5 @@ pub enum FloorPrice {
 }
 
 impl Mitigated {
-    pub const MAX_STEPS: usize = 19;
+    pub const MAX_STEPS: usize = 20;
 }

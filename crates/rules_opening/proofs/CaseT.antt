@@ -5,11 +5,12 @@ use lib.IntN.{ℤ, pos, negℤ, negsuc}
 use Rattle.rules_number.specs.Over.{padded}
 use Rattle.rules_curve.specs.declared.RawStep.{RawStep}
 use Rattle.rules_curve.specs.declared.RawCurve.{RawCurve}
-use Rattle.rules_cost.specs.Costs.{blankPoint}
+use Rattle.rules_cost.specs.Costs.{mostPoints, blankPoint}
 use Rattle.rules_cost.specs.declared.Point.{Point}
 use Rattle.rules_cost.specs.declared.Costs.{Costs}
 use Rattle.rules_interval.specs.declared.Interval.{Interval}
 use Rattle.rules_path.specs.Paths.{Path, at}
+use Rattle.rules_curve.specs.Curves.{mostSteps}
 use Rattle.rules_opening.specs.Openings.{noRaw, noResource}
 use Rattle.rules_opening.specs.declared.Source.the-variants as source
 use Rattle.rules_opening.specs.declared.Resource.{Resource}
@@ -27,12 +28,12 @@ cells n l = padded n (pos 0) l
 
 -- ---- T
 abbrev pub bidT : RawCurve
-bidT = record { start = pos 10000; count = 2; steps = padded 10 (rawTo 0 0) (rawTo 15000 300000 ∷ rawTo 30000 900000 ∷ []) }
+bidT = record { start = pos 10000; count = 2; steps = padded mostSteps (rawTo 0 0) (rawTo 15000 300000 ∷ rawTo 30000 900000 ∷ []) }
 
 abbrev pub costsT : Costs
 costsT = record {
   count = 3;
-  points = padded 11 blankPoint (point 10000 10000 ∷ point 20000 9000 ∷ point 30000 9500 ∷ []);
+  points = padded mostPoints blankPoint (point 10000 10000 ∷ point 20000 9000 ∷ point 30000 9500 ∷ []);
   gas = pos 40000;
   rate = pos 0;
   allowance = pos 0;
@@ -69,7 +70,7 @@ intervalT = intervalAt 600000
 abbrev pub costs3 : ℕ → Costs
 costs3 h = record {
   count = 2;
-  points = padded 11 blankPoint (point 1 h ∷ point 4 3 ∷ []);
+  points = padded mostPoints blankPoint (point 1 h ∷ point 4 3 ∷ []);
   gas = pos 0;
   rate = pos 0;
   allowance = pos 0;
@@ -95,4 +96,4 @@ path4 dispatch s = record {
 
 -- ---- P10
 abbrev pub bid10 : RawCurve
-bid10 = record { start = pos 0; count = 1; steps = padded 10 (rawTo 0 0) (rawTo 1 5000001 ∷ []) }
+bid10 = record { start = pos 0; count = 1; steps = padded mostSteps (rawTo 0 0) (rawTo 1 5000001 ∷ []) }

@@ -77,7 +77,7 @@ cost-end c h = rw (with-used (natOf (mwAt c 0)) (listed (costStep c) (stepCount 
         ∙ ap (λ s. s .end) (listed-at (costStep c) blankStep (suc n) n (le-refl (suc n)))
 
 -- ---- 11, where the bid and the costs or the pack are met
-module _ (x : Resource) (full : Full x) (count : Counted (x .bid)) (edges : Edged (x .bid)) where
+module _ (x : Resource) (full : Full x) (count : Counted 10 (x .bid)) (edges : Edged (x .bid)) where
   bid-room : x .bid .count ≤ length (x .bid .steps)
   bid-room = omega (arith, count .at-most, full .bid)
 

@@ -5,9 +5,9 @@ use lib.IntN.{ℤ, pos, negℤ}
 use Rattle.rules_number.specs.Order.{inRange}
 use Rattle.rules_number.specs.Over.{allTo, highestTo, listed, padded}
 use Rattle.rules_curve.specs.Refusals.{eachTo}
-use Rattle.rules_curve.specs.Curves.{stepTo, stepsOf, chain, curveRefusal, curveOf}
+use Rattle.rules_curve.specs.Curves.{mostSteps, stepTo, stepsOf, chain, curveRefusal, curveOf}
 use Rattle.rules_curve.specs.declared.RawCurve.{RawCurve}
-use Rattle.rules_cost.specs.Costs.{blankPoint, width, unlimited, incrementalRate, fuel, greenhouse, feePart, stepCost, withAdder, rateAt, largestRate, stepPrice, raisedPrice, costCurve, mwSuits, mwGood, heatGood, chargesInRange, pricesInRange, ratesGood, costRefusal}
+use Rattle.rules_cost.specs.Costs.{mostPoints, blankPoint, width, unlimited, incrementalRate, fuel, greenhouse, feePart, stepCost, withAdder, rateAt, largestRate, stepPrice, raisedPrice, costCurve, mwSuits, mwGood, heatGood, chargesInRange, pricesInRange, ratesGood, costRefusal}
 use Rattle.rules_cost.specs.declared.Costs.{Costs}
 use Rattle.rules_opening.specs.Resources.{liesInside, resourceRefusal, rowOf}
 use Rattle.rules_opening.specs.Openings.{noRaw, noCosts, noResource, resourceAt, sellersGood, ownersGood, openingRefusal}
@@ -37,7 +37,7 @@ openingOf x = record { month = pos 25; portfolios = 1; sellers = cells 16 (pos 1
 abbrev pub costs : Costs
 costs = record {
   count = 5;
-  points = padded 11 blankPoint (point 10000 10500 ∷ point 16000 9800 ∷ point 20000 9900 ∷ point 24000 10100 ∷ point 25001 10000 ∷ []);
+  points = padded mostPoints blankPoint (point 10000 10500 ∷ point 16000 9800 ∷ point 20000 9900 ∷ point 24000 10100 ∷ point 25001 10000 ∷ []);
   gas = pos 35001;
   rate = pos 53073;
   allowance = pos 187654;
@@ -48,7 +48,7 @@ costs = record {
 }
 
 abbrev pub bid : RawCurve
-bid = record { start = pos 10000; count = 2; steps = padded 10 (rawTo 0 0) (rawTo 18000 500000 ∷ rawTo 25001 900000 ∷ []) }
+bid = record { start = pos 10000; count = 2; steps = padded mostSteps (rawTo 0 0) (rawTo 18000 500000 ∷ rawTo 25001 900000 ∷ []) }
 
 abbrev pub fromCosts : Opening
 fromCosts = openingOf (record { portfolio = pos 0; bid = bid; source = source.Costs; costs = costs; pack = noRaw })
@@ -75,7 +75,7 @@ packed low high =
       bid = bid;
       source = source.Pack;
       costs = noCosts;
-      pack = record { start = pos 10000; count = 2; steps = padded 10 (rawTo 0 0) (record { end = pos 20000; price = low } ∷ record { end = pos 30000; price = high } ∷ []) };
+      pack = record { start = pos 10000; count = 2; steps = padded mostSteps (rawTo 0 0) (record { end = pos 20000; price = low } ∷ record { end = pos 30000; price = high } ∷ []) };
     })
 
 pub record FromPack : Type 0 where

@@ -8,6 +8,7 @@ use lib.Signed.{_≤ℤ_}
 use Rattle.rules_curve.specs.Demands.{Demand, _asks_}
 use Rattle.rules_curve.specs.Conditions.{edge, bidDemands, defaultDemands}
 use Rattle.rules_cost.specs.Conditions.{m, costDemands}
+use Rattle.rules_curve.specs.Curves.{mostSteps}
 use Rattle.rules_opening.specs.declared.Source.{Source}
 use Rattle.rules_opening.specs.declared.Source.the-variants as source
 use Rattle.rules_opening.specs.declared.Resource.{Resource}
@@ -34,7 +35,7 @@ pub record Inside (s : Source) (x : Resource) : Type 0 where
 abbrev pub resourceDemands : ℕ → Resource → List Demand
 resourceDemands month x = bidDemands month (x .bid) ++ sourceDemands (x .source) x ++ ((11 asks Inside (x .source) x) ∷ [])
 
--- what the theorems take as given: a resource holds its bid and its pack in arrays of ten steps
+-- what the theorems take as given: a resource holds its bid and its pack in arrays of eleven steps
 pub record Full (x : Resource) : Type 0 where
-  pub bid : length (x .bid .steps) ≡ 10
-  pub pack : length (x .pack .steps) ≡ 10
+  pub bid : length (x .bid .steps) ≡ mostSteps
+  pub pack : length (x .pack .steps) ≡ mostSteps

@@ -15,7 +15,7 @@ use Rattle.rules_number.proofs.Kit.{P, N, Bd, var, le-by, le-true, bd-between, 
 use Rattle.rules_number.proofs.OrderLaws.{P-min, N-min, N-max}
 use Rattle.rules_number.proofs.OverLaws.{never, both}
 use Rattle.rules_number.proofs.RangeLaws.{nat-is}
-use Rattle.rules_curve.specs.Curves.{chain, edgeSuits, priceSuits, rawSteps, stepOf, stepsOf, endOf, priceAt, curveOf, curveWith, curveRefusal, bidRefusal, lowestBid, highestBid, lowestDefault, highestDefault}
+use Rattle.rules_curve.specs.Curves.{mostSteps, mostBidSteps, chain, edgeSuits, priceSuits, rawSteps, stepOf, stepsOf, endOf, priceAt, curveOf, curveWith, curveRefusal, bidRefusal, lowestBid, highestBid, lowestDefault, highestDefault}
 use Rattle.rules_curve.specs.Meaning.{Rising}
 use Rattle.rules_curve.specs.Refusals.{unless, _then_, eachTo}
 use Rattle.rules_curve.specs.declared.Curve.{Curve}
@@ -77,10 +77,10 @@ prices-few low top p (s ∷ l) h a b e = go (priceSuits top p s) refl e (λ k. p
         and-all (bd-between 1000000000 up (le-by (var (s .price)) (var top) (le-true (s .price) top (t .1))) a b) (ih up k)
     go false q k ih = never k
 
-curve-prices : (low top : ℤ) (c : RawCurve) → N low ≤ 1000000000 → P top ≤ 1000000000 → curveRefusal low top c ≡ 0 → Every Price (stepsOf (curveOf c))
+curve-prices : (most : ℕ) (low top : ℤ) (c : RawCurve) → N low ≤ 1000000000 → P top ≤ 1000000000 → curveRefusal most low top c ≡ 0 → Every Price (stepsOf (curveOf c))
 unfolding curveOf
-curve-prices low top c a b e =
-    rw (with-used (natOf (c .start)) (map stepOf (rawSteps c))) (prices-few low top low (rawSteps c) (≤ℤ-refl low) a b (checks-good low top c e .2))
+curve-prices most low top c a b e =
+    rw (with-used (natOf (c .start)) (map stepOf (rawSteps c))) (prices-few low top low (rawSteps c) (≤ℤ-refl low) a b (checks-good most low top c e .2))
 
 -- of any quantity
 price-of : (l : List Step) → Every Price l → (q : ℕ) → Bd 1000000000 (priceAt l q)
@@ -113,8 +113,8 @@ unfolding costCurve
 source-prices source.Costs x e =
     let c = x .costs in
     subst (λ (k : Curve). Every Price (stepsOf k)) (raw-back (natOf (mwAt c 0)) (listed (costStep c) (stepCount c)))
-    (curve-prices lowestDefault highestDefault (rawOf (curveWith (natOf (mwAt c 0)) (listed (costStep c) (stepCount c)))) (omega (arith, neg-dif 1000000000)) (omega arith) (cost-curve-passes c e))
-source-prices source.Pack x e = curve-prices lowestDefault highestDefault (x .pack) (omega (arith, neg-dif 1000000000)) (omega arith) e
+    (curve-prices mostSteps lowestDefault highestDefault (rawOf (curveWith (natOf (mwAt c 0)) (listed (costStep c) (stepCount c)))) (omega (arith, neg-dif 1000000000)) (omega arith) (cost-curve-passes c e))
+source-prices source.Pack x e = curve-prices mostSteps lowestDefault highestDefault (x .pack) (omega (arith, neg-dif 1000000000)) (omega arith) e
 
 highest-few : (month : ℕ) → P (highestBid month) ≤ 1000000000
 highest-few month = go (leb month 12) (leb month 24)
@@ -148,14 +148,14 @@ module _ (o : Opening) (accepted : openingRefusal o ≡ 0) (r : ℕ) (l : r < o 
   unfolding curveOf
   bid-ends =
       let c = resourceAt o r .bid in
-      let edges = checks-good lowestBid (highestBid (natOf (o .month))) c (taken .0) .1 in
+      let edges = checks-good mostBidSteps lowestBid (highestBid (natOf (o .month))) c (taken .0) .1 in
       let b = both (inRange (pos 0) (pos 1000000) (c .start)) (chain edgeSuits (λ s. s .end) (c .start) (rawSteps c)) edges in
       rw (with-used (natOf (c .start)) (map stepOf (rawSteps c))) (edges-few (c .start) (rawSteps c) (nat-is 1000000 (c .start) (b .0) .1) (b .1))
 
   price-few : (calls : List Interval) (q : ℕ) → submitted o r .start ≤ q → q < endOf (submitted o r .start) (stepsOf (submitted o r)) → Bd 1000000000 (priceAt (usedSteps (curveAfter o calls r)) q)
   price-few calls q a b =
       let s = shape o r accepted l calls .is in
-      let bid = curve-prices lowestBid (highestBid (natOf (o .month))) (resourceAt o r .bid) (omega (arith, neg-dif 1500000)) (highest-few (natOf (o .month))) (taken .0) in
+      let bid = curve-prices mostBidSteps lowestBid (highestBid (natOf (o .month))) (resourceAt o r .bid) (omega (arith, neg-dif 1500000)) (highest-few (natOf (o .month))) (taken .0) in
       let default = source-prices (resourceAt o r .source) (resourceAt o r) (taken .1) in
       subst (Bd 1000000000) (sym (s .price q a b)) (capped-few (floorIn (hourOf o calls) r .price) (priceAt (stepsOf (submitted o r)) q) (priceAt (stepsOf (defaultOf o r)) q) (price-of (stepsOf (submitted o r)) bid q) (price-of (stepsOf (defaultOf o r)) default q))
 

@@ -1,5 +1,5 @@
 -- Paper 01, Text, and paper 02, 2.3: what an accepted interval prints, and when it is put into a lent buffer.
-use Prim.Native.Nat.{ℕ, _+_, _≤_, min}
+use Prim.Native.Nat.{ℕ, _+_, _*_, _≤_, min}
 use mathlib.Core.Path.{_≡_}
 use mathlib.Core.List.{List, [], _∷_, _++_, map}
 use mathlib.Core.Bool.{Bool, cond}
@@ -9,7 +9,7 @@ use lib.Dec.{leb}
 use lib.IntN.{pos}
 use Rattle.rules_number.specs.Over.{listed}
 use Rattle.rules_curve.specs.declared.Step.{Step}
-use Rattle.rules_mitigation.specs.Mitigation.{usedSteps}
+use Rattle.rules_mitigation.specs.Mitigation.{mostMitigatedSteps, usedSteps}
 use Rattle.rules_path.specs.Verdicts.{findingNumber, notBinding, isNamed}
 use Rattle.rules_path.specs.declared.Finding.{Finding}
 use Rattle.rules_path.specs.declared.Finding.the-variants.{Competitive, NonCompetitive, NotBinding}
@@ -111,7 +111,14 @@ pageText i n rows floors m verdicts = verdictText i m verdicts ++ curveText i n 
 abbrev pub verdictRoom : ℕ
 verdictRoom = 49152
 
--- curves are: 64 of up to 19 steps of 84 bytes take 102,172 at most with their names line
+-- a step's line has up to 84 bytes, so a curve's lines and those of 64 curves have up to 1,680 and 107,520
+abbrev pub curveBytes : ℕ
+curveBytes = mostMitigatedSteps * 84
+
+abbrev pub curvesBytes : ℕ
+curvesBytes = 64 * curveBytes
+
+-- curves are: 64 of them take 107,548 at most with their names line
 abbrev pub curveRoom : ℕ
 curveRoom = 114688
 

@@ -16,6 +16,8 @@ use Rattle.rules_text.specs.Numbers.{Line, Row, bytes, lines, number, magnitude
 use Rattle.rules_text.specs.Tables.{Reader, found, _▷_, due, headed, cell, single, counted, grouped, pairs, each}
 use Rattle.rules_text.specs.Offsets.{kept}
 use Rattle.rules_text.proofs.NameLaws.{isLine}
+use Rattle.rules_curve.specs.Curves.{mostSteps}
+use Rattle.rules_cost.specs.Costs.{mostPoints}
 use Rattle.rules_parts.specs.Parts.{stepOf, pointOf, resourceOf, resourcesOf, openingOf, readOpening}
 use Rattle.rules_text.specs.Printing.{lineText}
 use Rattle.rules_parts.specs.Texts.{GivenOpening, GivenResource, sellerRow, resourceRow, stepRow, pointRow, costRow, stepRows, pointRows, zeroStep, zeroPoint, curveIs, resourceIs, zeroResource, openingLines, openingText, openingIs, ResourceSmall, OpeningSmall, ResourceFits, OpeningFits}
@@ -172,12 +174,12 @@ resource-with r n m s p = record {
 resource-is : (i : ℕ) (r : GivenResource) → ResourceFits r → resourceOf (pos i ∷ resourceRow r) (withId i (stepRows r)) (withId i (pointRows r)) (pos i ∷ costRow r) ≡ resourceIs r
 unfolding resource-with kept padded
 resource-is i r h =
-    let s : kept 10 zeroStep (map stepOf (withId i (stepRows r))) ≡ padded 10 zeroStep (r .steps) = ap (kept 10 zeroStep) (steps-are i (r .steps)) ∙ kept-padded 10 zeroStep (r .steps) (h .steps) in
-    let p : kept 11 zeroPoint (map pointOf (withId i (pointRows r))) ≡ padded 11 zeroPoint (r .points) = ap (kept 11 zeroPoint) (points-are i (r .points)) ∙ kept-padded 11 zeroPoint (r .points) (h .points) in
-    ap (λ (n : ℕ). resource-with r n (length (withId i (pointRows r))) (kept 10 zeroStep (map stepOf (withId i (stepRows r)))) (kept 11 zeroPoint (map pointOf (withId i (pointRows r))))) (rows-many stepRow i (r .steps))
-    ∙ ap (λ (m : ℕ). resource-with r (length (r .steps)) m (kept 10 zeroStep (map stepOf (withId i (stepRows r)))) (kept 11 zeroPoint (map pointOf (withId i (pointRows r))))) (rows-many pointRow i (r .points))
-    ∙ ap (λ (l : List RawStep). resource-with r (length (r .steps)) (length (r .points)) l (kept 11 zeroPoint (map pointOf (withId i (pointRows r))))) s
-    ∙ ap (resource-with r (length (r .steps)) (length (r .points)) (padded 10 zeroStep (r .steps))) p
+    let s : kept mostSteps zeroStep (map stepOf (withId i (stepRows r))) ≡ padded mostSteps zeroStep (r .steps) = ap (kept mostSteps zeroStep) (steps-are i (r .steps)) ∙ kept-padded mostSteps zeroStep (r .steps) (h .steps) in
+    let p : kept mostPoints zeroPoint (map pointOf (withId i (pointRows r))) ≡ padded mostPoints zeroPoint (r .points) = ap (kept mostPoints zeroPoint) (points-are i (r .points)) ∙ kept-padded mostPoints zeroPoint (r .points) (h .points) in
+    ap (λ (n : ℕ). resource-with r n (length (withId i (pointRows r))) (kept mostSteps zeroStep (map stepOf (withId i (stepRows r)))) (kept mostPoints zeroPoint (map pointOf (withId i (pointRows r))))) (rows-many stepRow i (r .steps))
+    ∙ ap (λ (m : ℕ). resource-with r (length (r .steps)) m (kept mostSteps zeroStep (map stepOf (withId i (stepRows r)))) (kept mostPoints zeroPoint (map pointOf (withId i (pointRows r))))) (rows-many pointRow i (r .points))
+    ∙ ap (λ (l : List RawStep). resource-with r (length (r .steps)) (length (r .points)) l (kept mostPoints zeroPoint (map pointOf (withId i (pointRows r))))) s
+    ∙ ap (resource-with r (length (r .steps)) (length (r .points)) (padded mostSteps zeroStep (r .steps))) p
 
 resources-are : (i : ℕ) (l : List GivenResource) → Every ResourceFits l
     → resourcesOf (countedRows resourceRow i l) (groupedRows stepRows i l) (groupedRows pointRows i l) (countedRows costRow i l) ≡ map resourceIs l

@@ -19,6 +19,8 @@ use Rattle.rules_opening.specs.declared.Opening.{Opening}
 use Rattle.rules_text.specs.Numbers.{Line, Row, bytes, same}
 use Rattle.rules_text.specs.Tables.{Reader, found, _▷_, due, headed, cell, single, run, rows, counted, grouped, pairs, each}
 use Rattle.rules_text.specs.Offsets.{kept}
+use Rattle.rules_curve.specs.Curves.{mostSteps}
+use Rattle.rules_cost.specs.Costs.{mostPoints}
 
 -- ---- the first six tables
 abbrev pub stepOf : Row → RawStep
@@ -26,7 +28,7 @@ stepOf x = record { end = cell 1 x; price = cell 2 x }
 
 -- a bid's start and its step lines
 abbrev pub bidOf : ℤ → List Row → RawCurve
-bidOf start xs = record { start = start; count = length xs; steps = kept 10 (stepOf []) (map stepOf xs) }
+bidOf start xs = record { start = start; count = length xs; steps = kept mostSteps (stepOf []) (map stepOf xs) }
 
 abbrev pub pointOf : Row → Point
 pointOf x = record { mw = cell 1 x; heat = cell 2 x }
@@ -35,7 +37,7 @@ pointOf x = record { mw = cell 1 x; heat = cell 2 x }
 abbrev pub costsOf : List Row → Row → Costs
 costsOf xs x = record {
   count = length xs;
-  points = kept 11 (pointOf []) (map pointOf xs);
+  points = kept mostPoints (pointOf []) (map pointOf xs);
   gas = cell 1 x;
   rate = cell 2 x;
   allowance = cell 3 x;

@@ -20,6 +20,8 @@ use Rattle.rules_opening.specs.declared.Opening.{Opening}
 use Rattle.rules_text.specs.Numbers.{Line, Row, bytes}
 use Rattle.rules_text.specs.Printing.{lineText}
 use Rattle.rules_text.specs.Spelled.{countedRows, groupedRows, together, tableLines, Every, Small}
+use Rattle.rules_curve.specs.Curves.{mostSteps}
+use Rattle.rules_cost.specs.Costs.{mostPoints}
 
 -- ---- what an opening says
 pub record GivenResource : Type 0 where
@@ -82,7 +84,7 @@ abbrev pub zeroPoint : Point
 zeroPoint = record { mw = pos 0; heat = pos 0 }
 
 abbrev pub curveIs : ℤ → List RawStep → RawCurve
-curveIs start steps = record { start = start; count = length steps; steps = padded 10 zeroStep steps }
+curveIs start steps = record { start = start; count = length steps; steps = padded mostSteps zeroStep steps }
 
 abbrev pub resourceIs : GivenResource → Resource
 resourceIs r = record {
@@ -91,7 +93,7 @@ resourceIs r = record {
   source = source.Costs;
   costs = record {
     count = length (r .points);
-    points = padded 11 zeroPoint (r .points);
+    points = padded mostPoints zeroPoint (r .points);
     gas = r .gas;
     rate = r .rate;
     allowance = r .allowance;
@@ -193,10 +195,10 @@ pub record OpeningSmall (o : GivenOpening) : Type 0 where
   pub sellers : Every Small (o .sellers)
   pub resources : Every ResourceSmall (o .resources)
 
--- its counts are at most the limits
+-- its counts are at most the rooms
 pub record ResourceFits (r : GivenResource) : Type 0 where
-  pub steps : length (r .steps) ≤ 10
-  pub points : length (r .points) ≤ 11
+  pub steps : length (r .steps) ≤ mostSteps
+  pub points : length (r .points) ≤ mostPoints
 
 pub record OpeningFits (o : GivenOpening) : Type 0 where
   pub small : OpeningSmall o

@@ -39,7 +39,7 @@ pub record Demand3 (o : Opening) (calls : List Request) (r : ℕ) : Type 0 where
 
 -- "A five-minute price is the least of that interval's price and the caps of its accepted passes with a cut, for every list of passes."
 pub record FiveMinute (o : Opening) (calls : List Request) (r : ℕ) : Type 0 where
-  -- it is the only such curve, 19 steps suffice, and each such pass has its cap in the words of demand 3
+  -- it is the only such curve, 20 steps suffice, and each such pass has its cap in the words of demand 3
   pub capped : Capped o r (priceAfter o calls r) (acceptedPasses o calls) (fiveMinuteAfter o calls r)
   -- "its accepted passes": those since the last accepted interval that returned 0
   pub accepting : acceptedPasses o calls ≡ returnedBy noneYet calls (answers o calls) .passes

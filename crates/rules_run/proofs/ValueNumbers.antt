@@ -2,7 +2,7 @@
 use Prim.Native.Nat.{ℕ, zero, suc, _≤_, zero-le}
 use mathlib.Core.Bool.{Bool, true, false}
 use native.Mathlib.Omega.{arith}
-use Rattle.rules_curve.specs.Curves.{countGood, edgesGood, pricesGood, curveRefusal}
+use Rattle.rules_curve.specs.Curves.{mostSteps, mostBidSteps, countGood, edgesGood, pricesGood, curveRefusal}
 use Rattle.rules_curve.specs.Curves.{curveOf, lowestBid, highestBid, lowestDefault, highestDefault}
 use Rattle.rules_curve.specs.Refusals.{unless, _then_, eachTo}
 use Rattle.rules_curve.specs.declared.RawCurve.{RawCurve}
@@ -36,10 +36,10 @@ module _ (k : ℕ) where
   each-few f zero h = zero-le
   each-few f (suc n) h = then-few (eachTo f n) (f n) (each-few f n h) (h n)
 
-  curve-few : 3 ≤ k → (low top : ℤ) (c : RawCurve) → curveRefusal low top c ≤ k
+  curve-few : 3 ≤ k → (most : ℕ) (low top : ℤ) (c : RawCurve) → curveRefusal most low top c ≤ k
   unfolding curveRefusal
-  curve-few l low top c =
-      then-few _ _ (then-few _ _ (unless-few (countGood c) 1 (omega arith)) (unless-few (edgesGood c) 2 (omega arith))) (unless-few (pricesGood low top c) 3 l)
+  curve-few l most low top c =
+      then-few _ _ (then-few _ _ (unless-few (countGood most c) 1 (omega arith)) (unless-few (edgesGood c) 2 (omega arith))) (unless-few (pricesGood low top c) 3 l)
 
   costs-few : 8 ≤ k → (c : Costs) → costRefusal c ≤ k
   unfolding costRefusal
@@ -49,12 +49,12 @@ module _ (k : ℕ) where
 
 source-few : (s : Source) (x : Resource) → sourceRefusal s x ≤ 11
 source-few source.Costs x = costs-few 11 (omega arith) (x .costs)
-source-few source.Pack x = curve-few 11 (omega arith) lowestDefault highestDefault (x .pack)
+source-few source.Pack x = curve-few 11 (omega arith) mostSteps lowestDefault highestDefault (x .pack)
 
 resource-few : (month : ℕ) (x : Resource) → resourceRefusal month x ≤ 11
 unfolding resourceRefusal
 resource-few month x =
-    then-few 11 _ _ (then-few 11 _ _ (curve-few 11 (omega arith) lowestBid (highestBid month) (x .bid)) (source-few (x .source) x))
+    then-few 11 _ _ (then-few 11 _ _ (curve-few 11 (omega arith) mostBidSteps lowestBid (highestBid month) (x .bid)) (source-few (x .source) x))
     (unless-few 11 (liesInside (curveOf (x .bid)) (defaultBy (x .source) x)) 11 (omega arith))
 
 pub opening-number : (o : Opening) → openingRefusal o ≤ 11

@@ -13,7 +13,7 @@ fn cell_at(s: &[i64], i: usize) -> i64
     if i < s.len() { s[i] } else { 0 }
 }
 
-// Ten steps, from end and price of each in turn.
+// Eleven steps, from end and price of each in turn.
 pub fn steps_in(s: &[i64]) -> [RawStep; Curve::MAX_STEPS]
     ensures { λ r. ⌜ r ≡ stepsIn (now (s .entry)) ⌝ }
 {

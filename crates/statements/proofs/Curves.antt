@@ -14,7 +14,7 @@ use Rattle.rules_number.proofs.CeilSize.{ceil-ge, ceil-lt}
 use Rattle.rules_number.proofs.CeilLaws.{ceil-unique}
 use Rattle.rules_number.proofs.OverLaws.{never}
 use Rattle.rules_curve.specs.Curves.{priceAt, endOf, stepsOf, quote}
-use Rattle.rules_curve.specs.Meaning.{Rising, NeverBelow, NeverFalling, Sound}
+use Rattle.rules_curve.specs.Meaning.{Rising, NeverBelow, NeverFalling, Sound, SoundBid}
 use Rattle.rules_curve.specs.declared.Step.{Step}
 use Rattle.rules_curve.specs.declared.Curve.{Curve}
 use Rattle.rules_curve.specs.declared.Quote.the-variants as answer
@@ -24,7 +24,8 @@ use Rattle.rules_mitigation.specs.Mitigation.{capped, lowered, mitigatedSteps, 
 use Rattle.rules_mitigation.specs.Meaning.{Apart, Inside, IsMitigated}
 use Rattle.rules_mitigation.specs.declared.FloorPrice.{FloorPrice}
 use Rattle.rules_mitigation.specs.declared.FloorPrice.the-variants.{Uncut, Cut}
-use Rattle.rules_mitigation.proofs.MitigatedCurve.{mitigated-is, mitigated-only, nineteen-suffice, further-cut}
+use Rattle.rules_mitigation.proofs.MitigatedCurve.{mitigated-is, mitigated-only, twenty-suffice, further-cut}
+use native.Mathlib.Nat.{le-trans}
 
 -- ---- ""Up" means rounded toward plus infinity": n / w, up, is the one whole number q with q × w >= n > (q - 1) × w
 pub up : (n : ℤ) (w : ℕ) → 0 < w → (q : ℤ) → (q ≡ ceilDiv n w) ↔ ((n ≤ℤ (q *ℤ pos w)) × (((q -ℤ pos 1) *ℤ pos w) <ℤ n))
@@ -65,9 +66,9 @@ Differ l = (i : ℕ) → suc i < length l → priced l i ≡ priced l (suc i) �
 abbrev pub Becomes : FloorPrice → ℤ → ℤ → ℤ → Type 0
 Becomes floor b d x = (floor ≡ Uncut → x ≡ b) × ((L : ℤ) → floor ≡ Cut L → x ≡ minZ b (maxZ d L))
 
--- what 1 to 3 leave of a curve
-abbrev pub Good : Curve → Type 0
-Good c = (length (stepsOf c) ≤ 10) × Rises (c .start) (stepsOf c) × NeverFalls (stepsOf c)
+-- what 1 to 3 leave of a curve of so many steps at most
+abbrev pub Good : ℕ → Curve → Type 0
+Good most c = (length (stepsOf c) ≤ most) × Rises (c .start) (stepsOf c) × NeverFalls (stepsOf c)
 
 -- where it ends
 abbrev pub end : Curve → ℕ
@@ -171,10 +172,17 @@ mitigates floor bid default p l = (
   },
 )
 
-sound : (c : Curve) → Good c → Sound c
-sound c g = record { few = g .0; rising = rises (c .start) (stepsOf c) .1 (g .1); never-falling = never-falls (stepsOf c) .1 (g .2) }
+sound : (most : ℕ) → most ≤ 11 → (c : Curve) → Good most c → Sound c
+sound most room c g = record { few = le-trans (g .0) room; rising = rises (c .start) (stepsOf c) .1 (g .1); never-falling = never-falls (stepsOf c) .1 (g .2) }
 
-module _ (bid default : Curve) (b : Good bid) (d : Good default) (starts : default .start ≤ bid .start) (ends : end bid ≤ end default) where
+sound-bid : (c : Curve) → Good 10 c → SoundBid c
+sound-bid c g = record { few = g .0; sound = sound 10 (omega arith) c g }
+
+sound-default : (c : Curve) → Good 11 c → Sound c
+sound-default c g = sound 11 (omega arith) c g
+
+-- a bid of at most 10 steps and a default curve of at most 11
+module _ (bid default : Curve) (b : Good 10 bid) (d : Good 11 default) (starts : default .start ≤ bid .start) (ends : end bid ≤ end default) where
   inside : Inside bid default
   inside = record { begins = starts; ends = ends }
 
@@ -182,16 +190,16 @@ module _ (bid default : Curve) (b : Good bid) (d : Good default) (starts : defau
   pub mitigated-curve : (floor : FloorPrice) (p : ℕ) (l : List Step)
       → ((p ≡ mitigated floor bid default .start) × (l ≡ usedSteps (mitigated floor bid default))) ↔ Mitigates floor bid default p l
   mitigated-curve floor p l =
-      let is = mitigated-is floor bid default (sound bid b) (sound default d) inside in (
+      let is = mitigated-is floor bid default (sound-bid bid b) (sound-default default d) inside in (
         (λ e. mitigates floor bid default p l .0 (rw (e .0, e .1) is)),
-        λ h. (h .0 ∙ sym (is .starts), mitigated-only floor bid default (sound bid b) (sound default d) inside p l (mitigates floor bid default p l .1 h)),
+        λ h. (h .0 ∙ sym (is .starts), mitigated-only floor bid default (sound-bid bid b) (sound-default default d) inside p l (mitigates floor bid default p l .1 h)),
       )
 
-  -- "19 steps always suffice"
-  pub nineteen : (floor : FloorPrice) → mitigated floor bid default .count ≤ 19
-  nineteen floor = nineteen-suffice floor bid default (sound bid b) (sound default d) inside
+  -- "A default curve may so have 11 steps, a mitigated one 20"
+  pub twenty : (floor : FloorPrice) → mitigated floor bid default .count ≤ 20
+  twenty floor = twenty-suffice floor bid default (sound-bid bid b) (sound-default default d) inside
 
   -- "An hour takes an interval and becomes the next hour, so a cut made earlier carries on."
   pub carries-on : (floor k : FloorPrice) (q : ℕ) → bid .start ≤ q → q < end bid
       → Becomes k (priceAt (mitigatedSteps floor bid default) q) (priceAt (stepsOf default) q) (priceAt (mitigatedSteps (lowered floor k) bid default) q)
-  carries-on floor k q h m = becomes k _ _ _ .0 (further-cut floor k bid default (sound bid b) inside q h m)
+  carries-on floor k q h m = becomes k _ _ _ .0 (further-cut floor k bid default (sound-bid bid b) inside q h m)

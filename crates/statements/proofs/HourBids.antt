@@ -18,7 +18,7 @@ use Rattle.rules_hour.specs.Demand3.{InBid}
 use Rattle.rules_pass.specs.Calls.{Request, interval, pass, acceptedIntervals}
 use Rattle.rules_hour_bid.specs.HourBids.{hourBidRefusal, hourBidIn, hourBidOf}
 use Rattle.rules_hour_bid.specs.Meaning.{joining, prefixesFrom, acceptedPrefixes, IsHourBid}
-use Rattle.rules_hour_bid.proofs.HourBidIs.{twenty-exactly, zero-exactly, hour-bid, hour-bid-only, fourth-curve, hour-bid-nineteen, refused-bid, given-bid}
+use Rattle.rules_hour_bid.proofs.HourBidIs.{twenty-exactly, zero-exactly, hour-bid, hour-bid-only, fourth-curve, hour-bid-twenty, refused-bid, given-bid}
 use Rattle.statements.proofs.Curves.{Rises, Differ, rises, differ}
 use Rattle.statements.proofs.Demand3.{bid}
 use Rattle.statements.proofs.Passes.{hour, Intervals, intervals-are}
@@ -55,9 +55,9 @@ module _ (o : Opening) (calls : List Request) (r : ℕ) where
     pub four : Ending o [] calls ≡ first ∷ second ∷ third ∷ fourth ∷ []
     -- this curve, and no other
     pub takes : (p : ℕ) (l : List Step) → ((p ≡ given .start) × (l ≡ usedSteps given)) ↔ Takes first second third fourth p l
-    -- "while cuts carry on, this is the fourth curve. Room of 19 steps must be enough."
+    -- "while cuts carry on, this is the fourth curve. Room of 19 steps must be enough", 20 since a default curve may have 11.
     pub fourth-curve : given ≡ curveIn (hour o fourth .hour) r
-    pub nineteen-steps : given .count ≤ 19
+    pub twenty-steps : given .count ≤ 20
 
 -- ---- from the theorems
 ending-is : (o : Opening) (calls before : List Request) → prefixesFrom o before calls ≡ Ending o before calls
@@ -132,5 +132,5 @@ module _ (o : Opening) (opened : openingRefusal o ≡ 0) (calls : List Request) 
               })),
         );
         fourth-curve = same ∙ fourth-curve o opened calls r l full (h .first) (h .second) (h .third) (h .fourth) (h .four);
-        nineteen-steps = rw same (hour-bid-nineteen o opened calls r l full);
+        twenty-steps = rw same (hour-bid-twenty o opened calls r l full);
       }

@@ -75,7 +75,7 @@ pub record CallCuts (o : Opening) (calls : List Interval) (v : Interval) (r q : 
 -- the curve c of a resource: the one mitigated curve of its bid, with the floor price k
 pub record CurveSays (o : Opening) (r : ℕ) (k : FloorPrice) (c : Mitigated) : Type 0 where
   pub only : (p : ℕ) (l : List Step) → ((p ≡ c .start) × (l ≡ usedSteps c)) ↔ Mitigates k (bid o r) (default o r) p l
-  pub nineteen : c .count ≤ 19
+  pub twenty : c .count ≤ 20
 
 -- ---- from the theorems
 curve-says : (o : Opening) (r : ℕ) (k : FloorPrice) (c : Mitigated) → Shape o r k c → CurveSays o r k c
@@ -84,7 +84,7 @@ curve-says o r k c h = record {
     (λ e. mitigates k (bid o r) (default o r) p l .0 (rw (e .0, e .1) (h .is))),
     λ m. (m .0 ∙ sym (h .is .starts), h .only p l (mitigates k (bid o r) (default o r) p l .1 m)),
   );
-  nineteen = h .nineteen;
+  twenty = h .twenty;
 }
 
 module _ (o : Opening) (v : Interval) (c : ℕ) (x : Verdict) where

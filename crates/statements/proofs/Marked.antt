@@ -35,7 +35,7 @@ abbrev submitted : ℕ → ℕ → RawStep
 submitted e p = record { end = pos e; price = pos p }
 
 abbrev bid : ℕ → ℕ → List RawStep → RawCurve
-bid start count steps = record { start = pos start; count = count; steps = padded 10 (submitted 0 0) steps }
+bid start count steps = record { start = pos start; count = count; steps = padded 11 (submitted 0 0) steps }
 
 abbrev point : ℕ → ℕ → Point
 point m h = record { mw = pos m; heat = pos h }

@@ -35,9 +35,9 @@ SmallResource r =
 abbrev SmallOpening : GivenOpening → Type 0
 SmallOpening o = Twelve (o .month) × ((s : ℤ) → List·Memᴰ s (o .sellers) → Twelve s) × ((r : GivenResource) → List·Memᴰ r (o .resources) → SmallResource r)
 
--- and whose counts are within the limits
+-- and whose counts are within the rooms
 abbrev Fits : GivenOpening → Type 0
-Fits o = (length (o .sellers) ≤ 16) × (length (o .resources) ≤ 64) × ((r : GivenResource) → List·Memᴰ r (o .resources) → (length (r .steps) ≤ 10) × (length (r .points) ≤ 11))
+Fits o = (length (o .sellers) ≤ 16) × (length (o .resources) ≤ 64) × ((r : GivenResource) → List·Memᴰ r (o .resources) → (length (r .steps) ≤ 11) × (length (r .points) ≤ 11))
 
 -- ---- an interval
 abbrev SmallInterval : GivenInterval → Type 0
@@ -123,7 +123,7 @@ opening-small o =
 
 opening-fits : (o : GivenOpening) → OpeningFits o ↔ (SmallOpening o × Fits o)
 opening-fits o =
-    let rows = each ResourceFits (λ r. (length (r .steps) ≤ 10) × (length (r .points) ≤ 11)) (λ r. ((λ h. (h .steps, h .points)), λ h. record { steps = h .0; points = h .1 })) (o .resources) in (
+    let rows = each ResourceFits (λ r. (length (r .steps) ≤ 11) × (length (r .points) ≤ 11)) (λ r. ((λ h. (h .steps, h .points)), λ h. record { steps = h .0; points = h .1 })) (o .resources) in (
       (λ h. (opening-small o .0 (h .small), (h .portfolios, h .resources, rows .0 (h .each)))),
       λ h. record { small = opening-small o .1 (h .0); portfolios = h .1 .0; resources = h .1 .1; each = rows .1 (h .1 .2) },
     )

@@ -90,7 +90,7 @@ module _ (o : Opening) (calls : List Request) (r : ℕ) where
     pub only : (l : List Step) → Rises (bid o r .start) l → endOf (bid o r .start) l ≡ endOf (bid o r .start) (stepsOf (bid o r)) → Differ l
         → ((q : ℕ) → bid o r .start ≤ q → q < endOf (bid o r .start) (stepsOf (bid o r)) → CapsSay o r (Passes o calls) C q (priceAt (usedSteps hourly) q) (priceAt l q))
         → l ≡ usedSteps fives
-    pub nineteen-steps : fives .count ≤ 19
+    pub twenty-steps : fives .count ≤ 20
     pub up-to-three : length (Passes o calls) ≤ 3
     pub follow : Intervals o calls ≡ [] → Passes o calls ≡ []
 
@@ -197,7 +197,7 @@ module _ (o : Opening) (opened : openingRefusal o ≡ 0) (calls : List Request) 
               rising = rises (bid o r .start) k .1 up;
               apart = differ k .1 apart;
             }) .1;
-        nineteen-steps = K .nineteen;
+        twenty-steps = K .twenty;
         up-to-three = rw (← passes-are) (F .up-to-three);
         follow = λ e. sym passes-are ∙ F .follow (intervals-are ∙ e);
       }

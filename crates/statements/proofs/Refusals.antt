@@ -23,7 +23,7 @@ use Rattle.statements.proofs.Told.{_says_, Item, demands, told, taken, 
 abbrev pub Within : ℤ → ℤ → ℤ → Type 0
 Within lo hi x = (lo ≤ℤ x) × (x ≤ℤ hi)
 
--- ---- a curve of ten cells: its steps are numbered from 0, and its edges too, of which the first is its start
+-- ---- a curve of eleven cells: its steps are numbered from 0, and its edges too, of which the first is its start
 module _ (c : RawCurve) where
   abbrev pub edge : ℕ → ℤ
   edge zero = c .start
@@ -32,9 +32,9 @@ module _ (c : RawCurve) where
   abbrev price : ℕ → ℤ
   price i = getD (c .steps) i (record { end = pos 0; price = pos 0 }) .price
 
-  -- 1 "step count outside 1 to 10"
-  abbrev Steps : Type 0
-  Steps = (1 ≤ c .count) × (c .count ≤ 10)
+  -- 1 "step count outside 1 to 10"; "refusal 1 allows a default curve 11"
+  abbrev Steps : ℕ → Type 0
+  Steps most = (1 ≤ c .count) × (c .count ≤ most)
 
   -- 2 "an edge outside 0 to 1,000,000, or edges not rising"
   abbrev Edges : Type 0
@@ -56,11 +56,11 @@ module _ (c : RawCurve) where
   DefaultPrices = Prices (negℤ (pos 1000000000)) (pos 1000000000)
 
 -- "the lowest applicable number wins"; 0 stands for none
-pub record CurveSays (c : RawCurve) (prices : Type 0) (r : ℕ) : Type 0 where
-  pub one : (r ≡ 1) ↔ (Steps c → ⊥)
-  pub two : (r ≡ 2) ↔ (Steps c × (Edges c → ⊥))
-  pub three : (r ≡ 3) ↔ (Steps c × (Edges c × (prices → ⊥)))
-  pub none : (r ≡ 0) ↔ (Steps c × (Edges c × prices))
+pub record CurveSays (most : ℕ) (c : RawCurve) (prices : Type 0) (r : ℕ) : Type 0 where
+  pub one : (r ≡ 1) ↔ (Steps c most → ⊥)
+  pub two : (r ≡ 2) ↔ (Steps c most × (Edges c → ⊥))
+  pub three : (r ≡ 3) ↔ (Steps c most × (Edges c × (prices → ⊥)))
+  pub none : (r ≡ 0) ↔ (Steps c most × (Edges c × prices))
   pub no-other : (r ≡ 0) ⊎ ((1 ≤ r) × (r ≤ 3))
 
 -- ---- costs: their points (m, h) are numbered from 0
@@ -121,8 +121,8 @@ pub record CostsSay (c : Costs) (r : ℕ) : Type 0 where
 
 -- ---- from the theorems
 module _ (c : RawCurve) where
-  steps-are : Counted c ↔ Steps c
-  steps-are = ((λ h. (h .at-least, h .at-most)), λ h. record { at-least = h .0; at-most = h .1 })
+  steps-are : (most : ℕ) → Counted most c ↔ Steps c most
+  steps-are most = ((λ h. (h .at-least, h .at-most)), λ h. record { at-least = h .0; at-most = h .1 })
 
   pub edge-is : (i : ℕ) → edge c i ≡ rules.edge c i
   edge-is zero = refl
@@ -143,11 +143,11 @@ module _ (c : RawCurve) where
     λ h. record { months-to-12 = λ a. prices-are _ _ .1 (h .0 a); months-13-to-24 = λ a b. prices-are _ _ .1 (h .1 a b); months-from-25 = λ a. prices-are _ _ .1 (h .2 a) },
   )
 
-  module _ (P prices : Type 0) (same : P ↔ prices) (r : ℕ) where
+  module _ (most : ℕ) (P prices : Type 0) (same : P ↔ prices) (r : ℕ) where
     abbrev curve-items : List Item
-    curve-items = (1 says steps-are) ∷ (2 says edges-are) ∷ (3 says same) ∷ []
+    curve-items = (1 says steps-are most) ∷ (2 says edges-are) ∷ (3 says same) ∷ []
 
-    curve-says : ((n : ℕ) → (r ≡ n) ↔ First n (demands curve-items)) → CurveSays c prices r
+    curve-says : ((n : ℕ) → (r ≡ n) ↔ First n (demands curve-items)) → CurveSays most c prices r
     curve-says e = record {
       one = told curve-items r e 1 refl;
       two = told curve-items r e 2 refl;
@@ -156,13 +156,13 @@ module _ (c : RawCurve) where
       no-other = only curve-items r e 1 3 refl;
     }
 
--- a bid, by month, and the curve of a pack, each held in ten cells
-module _ (c : RawCurve) (full : length (c .steps) ≡ 10) where
-  pub bid : (month : ℕ) → CurveSays c (BidPrices c month) (bidRefusal month c)
-  bid month = curve-says c (BidPriced month c) (BidPrices c month) (bid-prices-are c month) (bidRefusal month c) (bid-exactly c full month)
+-- a bid, by month, and the curve of a pack, each held in eleven cells
+module _ (c : RawCurve) (full : length (c .steps) ≡ 11) where
+  pub bid : (month : ℕ) → CurveSays 10 c (BidPrices c month) (bidRefusal month c)
+  bid month = curve-says c 10 (BidPriced month c) (BidPrices c month) (bid-prices-are c month) (bidRefusal month c) (bid-exactly c full month)
 
-  pub pack : CurveSays c (DefaultPrices c) (defaultRefusal c)
-  pack = curve-says c (DefaultPriced c) (DefaultPrices c) (prices-are c _ _) (defaultRefusal c) (default-exactly c full)
+  pub pack : CurveSays 11 c (DefaultPrices c) (defaultRefusal c)
+  pack = curve-says c 11 (DefaultPriced c) (DefaultPrices c) (prices-are c _ _) (defaultRefusal c) (default-exactly c full)
 
 module _ (c : Costs) where
   points-are : Pointed c ↔ Points c

@@ -121,7 +121,7 @@ module _ (k l : List Demand) (b s r : ℕ) (P inside : Type 0) (bids : (n : ℕ)
 at-most-eight : (n lo hi : ℕ) → hi ≤ 8 → (n ≡ 0) ⊎ ((lo ≤ n) × (n ≤ hi)) → n ≤ 8
 at-most-eight n lo hi few x = ⊎-elim (λ e. omega arith) (λ y. omega (arith, y .1)) x
 
-module _ (month : ℕ) (x : Resource) (full : (length (x .bid .steps) ≡ 10) × (length (x .pack .steps) ≡ 10)) where
+module _ (month : ℕ) (x : Resource) (full : (length (x .bid .steps) ≡ 11) × (length (x .pack .steps) ≡ 11)) where
   few : bidRefusal month (x .bid) ≤ 8
   few = at-most-eight _ 1 3 (omega arith) (bid (x .bid) (full .0) month .no-other)
 
@@ -157,7 +157,7 @@ module _ (month : ℕ) (x : Resource) (full : (length (x .bid .steps) ≡ 10) ×
       go source.Costs q = ⊎-elim (λ y. omega arith) (λ y. omega arith) (resource-of-costs q .no-other)
       go source.Pack q = ⊎-elim (λ y. omega arith) (λ y. omega arith) (resource-of-pack q .no-other)
 
-module _ (o : Opening) (full : (k : ℕ) → k < o .resources → (length (resource o k .bid .steps) ≡ 10) × (length (resource o k .pack .steps) ≡ 10)) where
+module _ (o : Opening) (full : (k : ℕ) → k < o .resources → (length (resource o k .bid .steps) ≡ 11) × (length (resource o k .pack .steps) ≡ 11)) where
   counts-are : Limited o ↔ Counts o
   counts-are = (
     (λ h. (h .month, h .portfolios .0, h .portfolios .1, h .resources .0, h .resources .1)),

@@ -45,7 +45,7 @@ noPoint = record { mw = pos 0; heat = pos 0 }
 
 pub resource-values : (r : GivenResource) → resourceIs r ≡ record {
   portfolio = r .portfolio;
-  bid = record { start = r .start; count = length (r .steps); steps = padded 10 noStep (r .steps) };
+  bid = record { start = r .start; count = length (r .steps); steps = padded 11 noStep (r .steps) };
   source = source.Costs;
   costs = record {
     count = length (r .points);
@@ -58,7 +58,7 @@ pub resource-values : (r : GivenResource) → resourceIs r ≡ record {
     soc = r .soc;
     fee = r .fee;
   };
-  pack = record { start = pos 0; count = 0; steps = padded 10 noStep [] };
+  pack = record { start = pos 0; count = 0; steps = padded 11 noStep [] };
 }
 resource-values r = refl
 

@@ -5,6 +5,7 @@ use engine::Hour;
 use libc::STDOUT_FILENO;
 use rules_cost::Costs;
 use rules_cost::Point;
+use rules_curve::Curve;
 use rules_curve::Outcome;
 use rules_curve::RawCurve;
 use rules_curve::RawStep;
@@ -70,7 +71,7 @@ fn step(end: i64, price: i64) -> RawStep {
 
 // A raw curve of two steps, of which the first `count` count.
 fn curve_of(start: i64, count: usize, first: RawStep, second: RawStep) -> RawCurve {
-    let mut steps = [step(0, 0); 10];
+    let mut steps = [step(0, 0); Curve::MAX_STEPS];
     steps[0] = first;
     steps[1] = second;
     RawCurve {
@@ -82,7 +83,7 @@ fn curve_of(start: i64, count: usize, first: RawStep, second: RawStep) -> RawCur
 
 // Case T's costs.
 fn costs() -> Costs {
-    let mut points = [Point { mw: 0, heat: 0 }; 11];
+    let mut points = [Point { mw: 0, heat: 0 }; Costs::MAX_POINTS];
     points[0] = Point {
         mw: 10_000,
         heat: 10_000,

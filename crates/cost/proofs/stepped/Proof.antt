@@ -14,7 +14,7 @@ use Rattle.rules_number.specs.Over.{listed, padded}
 use Rattle.rules_number.proofs.Kit.{rd, came, negsuc-fits}
 use Rattle.rules_number.proofs.Meant.{Meant, fits, kept, _⊖_, held}
 use Rattle.rules_number.proofs.OrderLaws.{max-least}
-use Rattle.rules_cost.specs.Costs.{pointAt, mwAt, pmax, width, incrementalRate, rateAt, withAdder, mwInRange, rateInRange}
+use Rattle.rules_cost.specs.Costs.{mostPoints, pointAt, mwAt, pmax, width, incrementalRate, rateAt, withAdder, mwInRange, rateInRange}
 use Rattle.rules_cost.proofs.RangeLaws.{mw-size, few, mw-in, heat-in, has-width}
 use Rattle.rules_cost.proofs.CostLaws.{largest-in}
 use Rattle.cost.proofs.StepLaws.{Stepped, before-steps, next-step, rate-fails, rates-good, curve-is}
@@ -30,7 +30,7 @@ abbrev μ-loop : tie.MeasureT-loop
 μ-loop self count top first from₀ largest₀ price₀ steps₀ i₀ from largest price steps i = count - i
 
 -- the count is 2 to 11
-count-in : (s : tie.Start Inv-loop μ-loop) → (2 ≤ s .args .t1 .count) × (s .args .t1 .count ≤ 11)
+count-in : (s : tie.Start Inv-loop μ-loop) → (2 ≤ s .args .t1 .count) × (s .args .t1 .count ≤ mostPoints)
 count-in s = few (s .args .t1) (s .pre .0)
 
 sub-count : tie.Need-sub-count Inv-loop μ-loop

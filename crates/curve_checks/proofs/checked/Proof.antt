@@ -1,7 +1,7 @@
 -- `curve_checks::checked` meets its contract. Assumes nothing.
 use mathlib.Core.Bool.{true, false}
 use mathlib.Core.Path.{_≡_, refl, sym, _∙_}
-use Prim.Native.Nat.{_<_, _≤_}
+use Prim.Native.Nat.{ℕ, _<_, _≤_}
 use native.Mathlib.Omega.{arith}
 use borrow.Author.Tests.{not-true, not-false, le-leb, lt-leb}
 use mir.Syntax.{w64}
@@ -14,11 +14,11 @@ use Rattle.curve_checks.proofs.checked.Statement.{statement}
 use Rattle.curve_checks.proofs.checked.Tie as tie
 
 -- the count's test
-over : (c : RawCurve) → 10 < c .count → countGood c ≡ false
-over c h = rw (le-leb 1 (c .count) (omega arith), lt-leb (c .count) 10 h)
+over : (most : ℕ) (c : RawCurve) → 1 ≤ c .count → most < c .count → countGood most c ≡ false
+over most c l h = rw (le-leb 1 (c .count) l, lt-leb (c .count) most h)
 
-within : (c : RawCurve) → 1 ≤ c .count → c .count ≤ 10 → countGood c ≡ true
-within c l h = rw (le-leb 1 (c .count) l, le-leb (c .count) 10 h)
+within : (most : ℕ) (c : RawCurve) → 1 ≤ c .count → c .count ≤ most → countGood most c ≡ true
+within most c l h = rw (le-leb 1 (c .count) l, le-leb (c .count) most h)
 
 refused-requires : tie.Need-refused-requires
 refused-requires c κs = search needs
@@ -26,7 +26,7 @@ refused-requires c κs = search needs
 returns : tie.Need-returns
 returns c =
     let s = c .before .before in
-    rw (c .refused .ensures, refused-count (s .args .low) (s .args .top) (s .args .raw) (rw (c .before .if1 .taken))) (refl, refl)
+    rw (c .refused .ensures, refused-count (s .args .most) (s .args .low) (s .args .top) (s .args .raw) (rw (c .before .if1 .taken))) (refl, refl)
 
 refused-requires-2 : tie.Need-refused-requires-2
 refused-requires-2 c κs = search needs
@@ -34,7 +34,7 @@ refused-requires-2 c κs = search needs
 returns-2 : tie.Need-returns-2
 returns-2 c =
     let s = c .before .before .before in
-    rw (c .refused2 .ensures, refused-count (s .args .low) (s .args .top) (s .args .raw) (over (s .args .raw) (omega arith))) (refl, refl)
+    rw (c .refused2 .ensures, refused-count (s .args .most) (s .args .low) (s .args .top) (s .args .raw) (over (s .args .most) (s .args .raw) (omega arith) (omega arith))) (refl, refl)
 
 edges-good-requires : tie.Need-edges-good-requires
 edges-good-requires c κs = search needs
@@ -46,7 +46,7 @@ returns-3 : tie.Need-returns-3
 returns-3 c =
     let s = c .before .before .before .before .before in
     let e = sym (c .before .before .edges-good .ensures) ∙ not-true _ (c .before .if3 .taken) in
-    rw (c .refused3 .ensures, refused-edge (s .args .low) (s .args .top) (s .args .raw) (within (s .args .raw) (omega arith) (omega arith)) e) (refl, refl)
+    rw (c .refused3 .ensures, refused-edge (s .args .most) (s .args .low) (s .args .top) (s .args .raw) (within (s .args .most) (s .args .raw) (omega arith) (omega arith)) e) (refl, refl)
 
 prices-good-requires : tie.Need-prices-good-requires
 prices-good-requires c κs = search needs
@@ -61,7 +61,7 @@ returns-4 c =
     let fl = toZ-ofZ w64 (s .args .low) (s .fits .low) in
     let ft = toZ-ofZ w64 (s .args .top) (s .fits .top) in
     let p = sym (simp (fl, ft) at (c .before .before .prices-good .ensures)) ∙ not-true _ (c .before .if4 .taken) in
-    rw (c .refused4 .ensures, refused-price (s .args .low) (s .args .top) (s .args .raw) (within (s .args .raw) (omega arith) (omega arith)) e p) (refl, refl)
+    rw (c .refused4 .ensures, refused-price (s .args .most) (s .args .low) (s .args .top) (s .args .raw) (within (s .args .most) (s .args .raw) (omega arith) (omega arith)) e p) (refl, refl)
 
 settled-requires : tie.Need-settled-requires
 settled-requires c κs = search needs
@@ -73,7 +73,7 @@ returns-5 c =
     let fl = toZ-ofZ w64 (s .args .low) (s .fits .low) in
     let ft = toZ-ofZ w64 (s .args .top) (s .fits .top) in
     let p = sym (simp (fl, ft) at (c .before .before .prices-good .ensures)) ∙ not-false _ (c .before .if4 .left) in
-    rw (c .settled .ensures, taken-curve (s .args .low) (s .args .top) (s .args .raw) (within (s .args .raw) (omega arith) (omega arith)) e p) (refl, refl)
+    rw (c .settled .ensures, taken-curve (s .args .most) (s .args .low) (s .args .top) (s .args .raw) (within (s .args .most) (s .args .raw) (omega arith) (omega arith)) e p) (refl, refl)
 
 pub checked-spec : {M : Type 1} → statement M
 checked-spec =

@@ -8,14 +8,14 @@ use lib.Seq.{take-all}
 use Rattle.rules_number.specs.Over.{padded}
 use Rattle.rules_number.proofs.Kit.{came}
 use Rattle.rules_number.proofs.OverLaws.{taken-at}
-use Rattle.rules_curve.specs.Curves.{rawSteps, stepOf, blankStep, curveOf}
+use Rattle.rules_curve.specs.Curves.{mostSteps, rawSteps, stepOf, blankStep, curveOf}
 use Rattle.rules_curve.proofs.ChainLaws.{rawBlank, map-padded}
 use borrow.Author.Needs.{needs}
 use Rattle.curve_checks.proofs.settled.Statement.{statement}
 use Rattle.curve_checks.proofs.settled.Tie as tie
 
 abbrev Inv-loop : tie.InvT-loop
-Inv-loop self n start steps₀ i₀ steps i = (i ≤ n) × (steps ≡ padded 10 blankStep (map stepOf (take i (rawSteps self))))
+Inv-loop self n start steps₀ i₀ steps i = (i ≤ n) × (steps ≡ padded mostSteps blankStep (map stepOf (take i (rawSteps self))))
 
 abbrev μ-loop : tie.MeasureT-loop
 μ-loop self n start steps₀ i₀ steps i = n - i
@@ -56,7 +56,7 @@ loop-again c =
     let l = c .before .before .before in
     let s = l .before .before .before .before in
     let lt : l .loop .i < length (rawSteps (s .args .t1)) = omega arith in
-    (omega arith, rw (l .loop .inv .1, c .settled-step .ensures) (map-padded stepOf 10 blankStep rawBlank (rawSteps (s .args .t1)) (l .loop .i) _ lt (omega arith) (taken-at (s .args .t1 .count) (s .args .t1 .steps) (l .loop .i) rawBlank lt)))
+    (omega arith, rw (l .loop .inv .1, c .settled-step .ensures) (map-padded stepOf mostSteps blankStep rawBlank (rawSteps (s .args .t1)) (l .loop .i) _ lt (omega arith) (taken-at (s .args .t1 .count) (s .args .t1 .steps) (l .loop .i) rawBlank lt)))
 
 returns : tie.Need-returns Inv-loop μ-loop
 unfolding curveOf

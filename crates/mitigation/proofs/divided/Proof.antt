@@ -5,24 +5,25 @@ use native.Mathlib.Omega.{arith}
 use Rattle.rules_number.proofs.Kit.{came}
 use Rattle.rules_number.proofs.OverLaws.{taken-at}
 use lib.ListN.{length, getD}
-use Rattle.rules_curve.specs.Curves.{stepsOf, blankStep}
-use Rattle.rules_mitigation.specs.Mitigation.{capped}
+use Rattle.rules_curve.specs.Curves.{stepsOf, bidSteps, blankStep}
+use Rattle.rules_mitigation.specs.Mitigation.{capped, mostMitigatedSteps}
+use Rattle.rules_curve.proofs.CheckLaws.{bid-at}
 use Rattle.mitigation.proofs.Walk.{Walked, walked-start, walked-skip, walked-default, walked-bid, walked-bid-end, walked-default-end}
 use borrow.Author.Needs.{needs}
 use Rattle.mitigation.proofs.divided.Statement.{statement}
 use Rattle.mitigation.proofs.divided.Tie as tie
 
 abbrev Inv-loop : tie.InvT-loop
-Inv-loop floor bid default nb nd start steps₀ at₀ i₀ j₀ n₀ steps at i j n = Walked (capped floor) (stepsOf bid) (stepsOf default) start steps at i j n
+Inv-loop floor bid default nb nd start steps₀ at₀ i₀ j₀ n₀ steps at i j n = Walked (capped floor) (bidSteps bid) (stepsOf default) start steps at i j n
 
 abbrev μ-loop : tie.MeasureT-loop
 μ-loop floor bid default nb nd start steps₀ at₀ i₀ j₀ n₀ steps at i j n = (nb - i) + (nd - j)
 
+bid-used-requires : tie.Need-bid-used-requires Inv-loop μ-loop
+bid-used-requires c κs = search needs
+
 used-requires : tie.Need-used-requires Inv-loop μ-loop
 used-requires c κs = search needs
-
-used-requires-2 : tie.Need-used-requires-2 Inv-loop μ-loop
-used-requires-2 c κs = search needs
 
 loop-holds : tie.Need-loop-holds Inv-loop μ-loop
 loop-holds c = walked-start _ _ _ _
@@ -52,9 +53,9 @@ loop-again : tie.Need-loop-again Inv-loop μ-loop
 loop-again c =
     let l = c .before .before .before .before .before .before in
     let s = l .before .before .before in
-    let hi : l .loop .i < length (stepsOf (s .args .t1)) = omega arith in
+    let hi : l .loop .i < length (bidSteps (s .args .t1)) = omega arith in
     let hj : l .loop .j < length (stepsOf (s .args .t2)) = omega arith in
-    walked-skip _ _ _ _ _ _ _ _ _ blankStep _ _ (l .loop .inv) hi hj (taken-at (s .args .t1 .count) (s .args .t1 .steps) _ blankStep hi) (taken-at (s .args .t2 .count) (s .args .t2 .steps) _ blankStep hj) (c .if2 .taken)
+    walked-skip _ _ _ _ _ _ _ _ _ blankStep _ _ (l .loop .inv) hi hj (bid-at (s .args .t1) _ hi) (taken-at (s .args .t2 .count) (s .args .t2 .steps) _ blankStep hj) (c .if2 .taken)
 
 cap-requires : tie.Need-cap-requires Inv-loop μ-loop
 cap-requires c κs = search needs
@@ -80,14 +81,14 @@ loop-again-2 c =
     let s = l .before .before .before in
     let bp = getD (s .args .t1 .steps) (l .loop .i) blankStep .price in
     let dp = getD (s .args .t2 .steps) (l .loop .j) blankStep .price in
-    let hi : l .loop .i < length (stepsOf (s .args .t1)) = omega (arith, l .before, c .before .before .before .before .before .before .before .before .before .before) in
+    let hi : l .loop .i < length (bidSteps (s .args .t1)) = omega (arith, l .before, c .before .before .before .before .before .before .before .before .before .before) in
     let hj : l .loop .j < length (stepsOf (s .args .t2)) = omega (arith, l .before, c .before .before .before .before .before .before .before .before .before .before) in
-    let few : l .loop .n < 19 = omega (arith, hi, hj, l .loop .inv .few, l .before .used2 .ensures, l .before .before .used .ensures) in
+    let few : l .loop .n < mostMitigatedSteps = omega (arith, hi, hj, l .loop .inv .few, l .before .used .ensures, l .before .before .bid-used .ensures) in
     let fb = came bp (c .before .before .before .before .before .struct-told .given .1 .0 .1) in
     let fd = came dp (c .before .before .before .before .struct-told2 .given .1 .0 .1) in
     let fr = came (c .before .before .before .cap .result) (c .before .before .before .cap .ok) in
     let p = fr ∙ simp (fb, fd) at (c .before .before .before .cap .ensures) in
-    walked-default _ _ _ _ _ _ _ _ _ blankStep _ _ (l .loop .inv) hi hj (taken-at (s .args .t1 .count) (s .args .t1 .steps) _ blankStep hi) (taken-at (s .args .t2 .count) (s .args .t2 .steps) _ blankStep hj) few _ p (c .before .before .before .before .before .before .if2 .left) (c .if3 .taken)
+    walked-default _ _ _ _ _ _ _ _ _ blankStep _ _ (l .loop .inv) hi hj (bid-at (s .args .t1) _ hi) (taken-at (s .args .t2 .count) (s .args .t2 .steps) _ blankStep hj) few _ p (c .before .before .before .before .before .before .if2 .left) (c .if3 .taken)
 
 mul-steps-2 : tie.Need-mul-steps-2 Inv-loop μ-loop
 mul-steps-2 c = omega arith
@@ -110,14 +111,14 @@ loop-again-3 c =
     let s = l .before .before .before in
     let bp = getD (s .args .t1 .steps) (l .loop .i) blankStep .price in
     let dp = getD (s .args .t2 .steps) (l .loop .j) blankStep .price in
-    let hi : l .loop .i < length (stepsOf (s .args .t1)) = omega (arith, l .before, c .before .before .before .before .before .before .before .before .before .before) in
+    let hi : l .loop .i < length (bidSteps (s .args .t1)) = omega (arith, l .before, c .before .before .before .before .before .before .before .before .before .before) in
     let hj : l .loop .j < length (stepsOf (s .args .t2)) = omega (arith, l .before, c .before .before .before .before .before .before .before .before .before .before) in
-    let few : l .loop .n < 19 = omega (arith, hi, hj, l .loop .inv .few, l .before .used2 .ensures, l .before .before .used .ensures) in
+    let few : l .loop .n < mostMitigatedSteps = omega (arith, hi, hj, l .loop .inv .few, l .before .used .ensures, l .before .before .bid-used .ensures) in
     let fb = came bp (c .before .before .before .before .before .struct-told .given .1 .0 .1) in
     let fd = came dp (c .before .before .before .before .struct-told2 .given .1 .0 .1) in
     let fr = came (c .before .before .before .cap .result) (c .before .before .before .cap .ok) in
     let p = fr ∙ simp (fb, fd) at (c .before .before .before .cap .ensures) in
-    walked-bid _ _ _ _ _ _ _ _ _ blankStep _ _ (l .loop .inv) hi hj (taken-at (s .args .t1 .count) (s .args .t1 .steps) _ blankStep hi) (taken-at (s .args .t2 .count) (s .args .t2 .steps) _ blankStep hj) few _ p (c .before .before .before .before .before .before .if2 .left) (c .if3 .left)
+    walked-bid _ _ _ _ _ _ _ _ _ blankStep _ _ (l .loop .inv) hi hj (bid-at (s .args .t1) _ hi) (taken-at (s .args .t2 .count) (s .args .t2 .steps) _ blankStep hj) few _ p (c .before .before .before .before .before .before .if2 .left) (c .if3 .left)
 
 returns-2 : tie.Need-returns-2 Inv-loop μ-loop
 returns-2 c = walked-bid-end _ _ _ _ _ _ _ _ _ (c .before .loop .inv) (omega arith)
@@ -128,8 +129,8 @@ divided-spec =
     (tie.spec
     Inv-loop
     μ-loop
+    bid-used-requires
     used-requires
-    used-requires-2
     loop-holds
     returns
     mul-b

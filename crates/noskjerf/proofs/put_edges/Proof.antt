@@ -6,17 +6,17 @@ use native.Mathlib.Omega.{arith}
 use borrow.Author.Needs.{needs}
 use lib.ListN.{length, drop, getD, length-set, length-map}
 use lib.Seq.{sets, length-sets}
-use Rattle.rules_curve.specs.Curves.{blankStep}
+use Rattle.rules_curve.specs.Curves.{mostSteps, blankStep}
 use Rattle.rules_curve.specs.declared.Step.{Step}
 use Rattle.rules_library.proofs.SliceLaws.{put-next, put-done}
 use Rattle.noskjerf.proofs.put_edges.Statement.{statement}
 use Rattle.noskjerf.proofs.put_edges.Tie as tie
 
 abbrev Inv-loop : tie.InvT-loop
-Inv-loop edges₀ curve i₀ edges i = (i ≤ 10) × (length edges ≡ length edges₀) × (sets edges (2 + i) (map (λ s. s .end) (drop i (curve .steps))) ≡ sets edges₀ 2 (map (λ s. s .end) (curve .steps)))
+Inv-loop edges₀ curve i₀ edges i = (i ≤ mostSteps) × (length edges ≡ length edges₀) × (sets edges (2 + i) (map (λ s. s .end) (drop i (curve .steps))) ≡ sets edges₀ 2 (map (λ s. s .end) (curve .steps)))
 
 abbrev μ-loop : tie.MeasureT-loop
-μ-loop edges₀ curve i₀ edges i = 10 - i
+μ-loop edges₀ curve i₀ edges i = mostSteps - i
 
 slice-write-edges : tie.Need-slice-write-edges Inv-loop μ-loop
 slice-write-edges c = omega arith
@@ -27,8 +27,8 @@ slice-write-edges-2 c = omega (arith, length-set (c .args .edges .now) 0 (c .arg
 loop-holds : tie.Need-loop-holds Inv-loop μ-loop
 loop-holds c = (omega arith, refl, refl)
 
-ten : (c : tie.Start Inv-loop μ-loop) → length (c .args .t1 .steps) ≡ 10
-ten c = simp length-map at (c .good .0 .1 .1 .1 .1 .0 .1 .0 .1)
+eleven : (c : tie.Start Inv-loop μ-loop) → length (c .args .t1 .steps) ≡ mostSteps
+eleven c = simp length-map at (c .good .0 .1 .1 .1 .1 .0 .1 .0 .1)
 
 long : (l : tie.At-loop Inv-loop μ-loop) → length (l .loop .edges) ≡ length (l .before .args .edges .now)
 long l = l .loop .inv .1 ∙ length-sets (l .before .args .edges .now) 0 (l .before .args .t1 .count ∷ l .before .args .t1 .start ∷ [])
@@ -58,7 +58,7 @@ loop-again : tie.Need-loop-again Inv-loop μ-loop
 loop-again c =
     let l = c .before .before in
     let s = getD (l .before .args .t1 .steps) (l .loop .i) blankStep in
-    let n = ten (l .before) in (
+    let n = eleven (l .before) in (
       omega arith,
       length-set (l .loop .edges) (2 + l .loop .i) (s .end) ∙ l .loop .inv .1,
       put-next (λ (s : Step). s .end) (l .before .args .t1 .steps) (l .loop .edges) _ (l .loop .i) (2 + l .loop .i) (l .loop .inv .2) blankStep (s .end) (2 + (l .loop .i + 1)) (omega arith) refl (omega arith),
@@ -70,7 +70,7 @@ same-length c = long (c .before)
 returns : tie.Need-returns Inv-loop μ-loop
 returns c =
     let l = c .before in
-    let n = ten (l .before) in
+    let n = eleven (l .before) in
     put-done (λ (s : Step). s .end) (l .before .args .t1 .steps) (l .loop .edges) _ (l .loop .i) (2 + l .loop .i) (l .loop .inv .2) (omega arith)
 
 pub put-edges-spec : {M : Type 1} → statement M

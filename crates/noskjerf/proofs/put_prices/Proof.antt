@@ -7,23 +7,23 @@ use borrow.Author.Needs.{needs}
 use lib.ListN.{length, drop, getD, length-set, length-map}
 use lib.Seq.{sets}
 use Rattle.rules_number.proofs.Kit.{rd, came}
-use Rattle.rules_curve.specs.Curves.{blankStep}
+use Rattle.rules_curve.specs.Curves.{mostSteps, blankStep}
 use Rattle.rules_curve.specs.declared.Step.{Step}
 use Rattle.rules_library.proofs.SliceLaws.{put-next, put-done}
 use Rattle.noskjerf.proofs.put_prices.Statement.{statement}
 use Rattle.noskjerf.proofs.put_prices.Tie as tie
 
 abbrev Inv-loop : tie.InvT-loop
-Inv-loop prices₀ curve i₀ prices i = (i ≤ 10) × (length prices ≡ length prices₀) × (sets prices i (map (λ s. s .price) (drop i (curve .steps))) ≡ sets prices₀ 0 (map (λ s. s .price) (curve .steps)))
+Inv-loop prices₀ curve i₀ prices i = (i ≤ mostSteps) × (length prices ≡ length prices₀) × (sets prices i (map (λ s. s .price) (drop i (curve .steps))) ≡ sets prices₀ 0 (map (λ s. s .price) (curve .steps)))
 
 abbrev μ-loop : tie.MeasureT-loop
-μ-loop prices₀ curve i₀ prices i = 10 - i
+μ-loop prices₀ curve i₀ prices i = mostSteps - i
 
 loop-holds : tie.Need-loop-holds Inv-loop μ-loop
 loop-holds c = (omega arith, refl, refl)
 
-ten : (c : tie.Start Inv-loop μ-loop) → length (c .args .t1 .steps) ≡ 10
-ten c = simp length-map at (c .good .0 .1 .1 .1 .1 .0 .1 .0 .1)
+eleven : (c : tie.Start Inv-loop μ-loop) → length (c .args .t1 .steps) ≡ mostSteps
+eleven c = simp length-map at (c .good .0 .1 .1 .1 .1 .0 .1 .0 .1)
 
 mul-s : tie.Need-mul-s Inv-loop μ-loop
 mul-s c = search needs
@@ -47,7 +47,7 @@ loop-again : tie.Need-loop-again Inv-loop μ-loop
 loop-again c =
     let l = c .before .before .before in
     let s = getD (l .before .args .t1 .steps) (l .loop .i) blankStep in
-    let n = ten (l .before) in (
+    let n = eleven (l .before) in (
       omega arith,
       length-set (l .loop .prices) (l .loop .i) (rd (s .price)) ∙ l .loop .inv .1,
       put-next (λ (s : Step). s .price) (l .before .args .t1 .steps) (l .loop .prices) _ (l .loop .i) (l .loop .i) (l .loop .inv .2) blankStep (rd (s .price)) (l .loop .i + 1) (omega arith) (came (s .price) (c .struct-told .given .1 .0 .1)) (omega arith),
@@ -59,7 +59,7 @@ same-length c = c .before .loop .inv .1
 returns : tie.Need-returns Inv-loop μ-loop
 returns c =
     let l = c .before in
-    let n = ten (l .before) in
+    let n = eleven (l .before) in
     put-done (λ (s : Step). s .price) (l .before .args .t1 .steps) (l .loop .prices) _ (l .loop .i) (l .loop .i) (l .loop .inv .2) (omega arith)
 
 pub put-prices-spec : {M : Type 1} → statement M

@@ -7,7 +7,7 @@ use native.Mathlib.Omega.{arith}
 use borrow.Author.Needs.{needs}
 use borrow.Author.Tests.{leb-true, leb-false, not-true, not-false}
 use lib.ListN.{length}
-use Rattle.rules_page.specs.Pages.{curveNames, curveTable, curveText, curveRoom, hasRoom}
+use Rattle.rules_page.specs.Pages.{curvesBytes, curveNames, curveTable, curveText, curveRoom, hasRoom}
 use Rattle.page.proofs.PageLaws.{Putting, putting-start, putting-next, putting-done, within-none, within-some}
 use Rattle.page.proofs.print_curves.Statement.{statement}
 use Rattle.page.proofs.print_curves.Tie as tie
@@ -46,7 +46,7 @@ stage1 c =
     let s = start (else1 c) in
     (putting-next (putting-start (s .args .out .now) (s .args .at) (page s)) curveNames (rest1 s) (c .put-names .last .0) (c .put-names .result) refl (c .put-names .ensures .0) (c .put-names .ensures .1), omega (arith, c .put-names .ensures .1))
 
-stage2 : (c : tie.After-put-curves) → Stage (else2 c) (c .put-curves .last .0) (c .put-curves .result) [] 102172
+stage2 : (c : tie.After-put-curves) → Stage (else2 c) (c .put-curves .last .0) (c .put-curves .result) [] (28 + curvesBytes)
 stage2 c =
     let s = start (else2 c) in
     let k = stage1 (c .before .before .before .before) in

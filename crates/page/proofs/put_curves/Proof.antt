@@ -9,7 +9,7 @@ use lib.Seq.{sets}
 use Rattle.rules_number.specs.Over.{listed}
 use Rattle.rules_number.proofs.OverLaws.{listed-at, listed-length}
 use Rattle.rules_text.specs.Printing.{groupText, tableText}
-use Rattle.rules_page.specs.Pages.{printable, curveRows, curveTable}
+use Rattle.rules_page.specs.Pages.{curveBytes, printable, curveRows, curveTable}
 use Rattle.page.proofs.PageLaws.{Putting, putting-start, putting-next, putting-done, table-next, table-done}
 use Rattle.page.proofs.put_curves.Statement.{statement}
 use Rattle.page.proofs.put_curves.Tie as tie
@@ -20,7 +20,7 @@ numbers n = listed (λ r. r) n
 
 abbrev Inv-loop : tie.InvT-loop
 Inv-loop out₀ at i resources rows floors n p₀ r₀ out p r =
-    Putting out₀ at (curveTable i resources rows floors) out p (tableText (printable i) r (map (curveRows rows floors) (drop r (numbers n)))) × (r ≤ n) × (p ≤ at + 1596 * r)
+    Putting out₀ at (curveTable i resources rows floors) out p (tableText (printable i) r (map (curveRows rows floors) (drop r (numbers n)))) × (r ≤ n) × (p ≤ at + curveBytes * r)
 
 abbrev μ-loop : tie.MeasureT-loop
 μ-loop out₀ at i resources rows floors n p₀ r₀ out p r = n - r

@@ -10,7 +10,7 @@ use lib.IntN.{pos}
 use Rattle.rules_number.proofs.Kit.{came}
 use Rattle.rules_number.proofs.OverLaws.{taken-at}
 use Rattle.rules_curve.specs.Curves.{blankStep}
-use Rattle.rules_mitigation.specs.Mitigation.{usedSteps}
+use Rattle.rules_mitigation.specs.Mitigation.{mostMitigatedSteps, usedSteps}
 use Rattle.rules_text.specs.Printing.{lineText, groupText}
 use Rattle.rules_page.specs.Pages.{printable, stepRow}
 use Rattle.page.proofs.PageLaws.{Putting, putting-start, putting-next, putting-done, group-next, group-done, taken-length, small-printable}
@@ -29,10 +29,10 @@ abbrev μ-loop : tie.MeasureT-loop
 used : (c : tie.At-loop Inv-loop μ-loop) → length (usedSteps (c .before .before .before .args .t5)) ≡ c .before .at-most .result
 used c =
     let a = c .before .before .before .args in
-    let n : length (a .t5 .steps) ≡ 19 = simp length-map at (c .before .before .before .good .1 .1 .1 .1 .0 .1 .1 .1 .1 .0 .1 .0 .1) in
-    taken-length (a .t5 .count) (c .before .at-most .result) 19 (a .t5 .steps) n (c .before .at-most .ensures)
+    let n : length (a .t5 .steps) ≡ mostMitigatedSteps = simp length-map at (c .before .before .before .good .1 .1 .1 .1 .0 .1 .1 .1 .1 .0 .1 .0 .1) in
+    taken-length (a .t5 .count) (c .before .at-most .result) mostMitigatedSteps (a .t5 .steps) n (c .before .at-most .ensures)
 
-few : (c : tie.In-loop Inv-loop μ-loop) → c .before .loop .s < 19
+few : (c : tie.In-loop Inv-loop μ-loop) → c .before .loop .s < mostMitigatedSteps
 few c = omega (arith, c .loop-test .taken, c .before .before .at-most .ensures)
 
 here : (c : tie.In-loop Inv-loop μ-loop) → c .before .loop .s < length (usedSteps (c .before .before .before .before .args .t5))

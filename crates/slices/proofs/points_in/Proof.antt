@@ -6,7 +6,7 @@ use borrow.Author.Needs.{needs}
 use lib.IntN.{ℤ}
 use Rattle.rules_number.proofs.Kit.{came}
 use Rattle.rules_number.specs.Over.{listed, padded}
-use Rattle.rules_cost.specs.Costs.{blankPoint}
+use Rattle.rules_cost.specs.Costs.{mostPoints, blankPoint}
 use Rattle.rules_cost.specs.declared.Point.{Point}
 use Rattle.rules_library.specs.Slices.{rawPointAt}
 use Rattle.rules_library.proofs.SliceLaws.{filled-next, filled}
@@ -14,10 +14,10 @@ use Rattle.slices.proofs.points_in.Statement.{statement}
 use Rattle.slices.proofs.points_in.Tie as tie
 
 abbrev Inv-loop : tie.InvT-loop
-Inv-loop s points₀ i₀ points i = (i ≤ 11) × (points ≡ padded 11 blankPoint (listed (rawPointAt s) i))
+Inv-loop s points₀ i₀ points i = (i ≤ mostPoints) × (points ≡ padded mostPoints blankPoint (listed (rawPointAt s) i))
 
 abbrev μ-loop : tie.MeasureT-loop
-μ-loop s points₀ i₀ points i = 11 - i
+μ-loop s points₀ i₀ points i = mostPoints - i
 
 loop-holds : tie.Need-loop-holds Inv-loop μ-loop
 unfolding padded listed
@@ -58,14 +58,14 @@ loop-again c =
     let f = c .before in
     let l = f .before .before in (
       omega arith,
-      filled-next 11 blankPoint (rawPointAt (l .before .args .s .now)) (l .loop .points) (l .loop .i) _ (omega arith) (l .loop .inv .1)
+      filled-next mostPoints blankPoint (rawPointAt (l .before .args .s .now)) (l .loop .points) (l .loop .i) _ (omega arith) (l .loop .inv .1)
           (by-cells (came (f .cell-at .result) (f .cell-at .ok) ∙ f .cell-at .ensures) (came (c .cell-at2 .result) (c .cell-at2 .ok) ∙ c .cell-at2 .ensures)),
     )
 
 returns : tie.Need-returns Inv-loop μ-loop
 returns c =
     let l = c .before in
-    filled 11 blankPoint (rawPointAt (l .before .args .s .now)) (l .loop .points) (l .loop .i) (omega arith) (omega arith) (l .loop .inv .1)
+    filled mostPoints blankPoint (rawPointAt (l .before .args .s .now)) (l .loop .points) (l .loop .i) (omega arith) (omega arith) (l .loop .inv .1)
 
 pub points-in-spec : {M : Type 1} → statement M
 points-in-spec =

@@ -1,14 +1,15 @@
 -- `worked_hour::print_curve` meets its contract. Assumes nothing.
 use Prim.Native.Nat.{_-_, _≤_}
 use borrow.Author.Needs.{needs}
+use Rattle.rules_mitigation.specs.Mitigation.{mostMitigatedSteps}
 use Rattle.worked_hour.proofs.print_curve.Statement.{statement}
 use Rattle.worked_hour.proofs.print_curve.Tie as tie
 
 abbrev Inv-loop : tie.InvT-loop
-Inv-loop label r c i₀ t7 t8 t9 i = i ≤ 19
+Inv-loop label r c i₀ t7 t8 t9 i = i ≤ mostMitigatedSteps
 
 abbrev μ-loop : tie.MeasureT-loop
-μ-loop label r c i₀ t7 t8 t9 i = 19 - i
+μ-loop label r c i₀ t7 t8 t9 i = mostMitigatedSteps - i
 
 print-requires : tie.Need-print-requires Inv-loop μ-loop
 print-requires c κs = search needs

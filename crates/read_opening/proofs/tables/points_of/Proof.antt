@@ -23,6 +23,7 @@ use Rattle.rules_text.proofs.TableLaws.{Loop, room, ends, Turned, turns, kept-l
 use Rattle.rules_text.proofs.UsedLaws.{Used, used-none, used-next, used-count}
 use Rattle.rules_parts.specs.Parts.{pointOf}
 use Rattle.read_resources.specs.Joined.{withPoints}
+use Rattle.rules_cost.specs.Costs.{mostPoints}
 use Rattle.read_opening.proofs.GroupLaws.{no-line, other-line, own-line}
 use Rattle.read_opening.proofs.tables.points_of.Statement.{statement}
 use Rattle.read_opening.proofs.tables.points_of.Tie as tie
@@ -37,7 +38,7 @@ abbrev rows : List ℕ → ℕ → ℕ → List Row
 rows s at r = pairs r (lines (drop at s))
 
 abbrev whole : List ℕ → ℕ → ℕ → List Point
-whole s at r = kept 11 (pointOf []) (map pointOf (rows s at r))
+whole s at r = kept mostPoints (pointOf []) (map pointOf (rows s at r))
 
 abbrev Reads : List ℕ → ℕ → ℕ → ℕ → List Point → ℕ → Type 0
 Reads s at r count points next = Loop 2 (of r) on pointOf count 0 points (drop next s) (length (rows s at r)) (whole s at r) (lines (drop at s))
@@ -123,7 +124,7 @@ turn c =
     let l = loops (asked c) in
     let x = l .loop .row in
     let h = there c in
-    let long = room 2 (of (resource l)) on pointOf (l .loop .count) 0 (l .loop .points) (drop (l .loop .next) (text l)) _ _ _ (l .loop .inv .0) ∙ kept-length 11 (pointOf []) (map pointOf (rows (text l) (start l) (resource l))) in
+    let long = room 2 (of (resource l)) on pointOf (l .loop .count) 0 (l .loop .points) (drop (l .loop .next) (text l)) _ _ _ (l .loop .inv .0) ∙ kept-length mostPoints (pointOf []) (map pointOf (rows (text l) (start l) (resource l))) in
     turns 2 (of (resource l)) on pointOf (l .loop .count) 0 (l .loop .points) (drop (l .loop .next) (text l)) _ _ _ (l .loop .inv .0) (h .x) (h .is)
     0 refl (c .if2 .points)
     (⊎-elim (λ w. w .2 ∙ ap (set (l .loop .points) (l .loop .count)) (point-by (came (x .second) (w .1 .given .1 .1 .0 .1) ∙ h .second) (came (x .third) (w .1 .given .1 .1 .1 .0 .1) ∙ h .third)))

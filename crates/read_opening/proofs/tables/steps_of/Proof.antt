@@ -23,6 +23,7 @@ use Rattle.rules_text.proofs.TableLaws.{Loop, room, ends, Turned, turns, kept-l
 use Rattle.rules_text.proofs.UsedLaws.{Used, used-none, used-next, used-count}
 use Rattle.rules_parts.specs.Parts.{stepOf}
 use Rattle.read_resources.specs.Joined.{withSteps}
+use Rattle.rules_curve.specs.Curves.{mostSteps}
 use Rattle.read_opening.proofs.GroupLaws.{no-line, other-line, own-line}
 use Rattle.read_opening.proofs.tables.steps_of.Statement.{statement}
 use Rattle.read_opening.proofs.tables.steps_of.Tie as tie
@@ -37,7 +38,7 @@ abbrev rows : List ℕ → ℕ → ℕ → List Row
 rows s at r = pairs r (lines (drop at s))
 
 abbrev whole : List ℕ → ℕ → ℕ → List RawStep
-whole s at r = kept 10 (stepOf []) (map stepOf (rows s at r))
+whole s at r = kept mostSteps (stepOf []) (map stepOf (rows s at r))
 
 abbrev Reads : List ℕ → ℕ → ℕ → ℕ → List RawStep → ℕ → Type 0
 Reads s at r count steps next = Loop 2 (of r) on stepOf count 0 steps (drop next s) (length (rows s at r)) (whole s at r) (lines (drop at s))
@@ -123,7 +124,7 @@ turn c =
     let l = loops (asked c) in
     let x = l .loop .row in
     let h = there c in
-    let long = room 2 (of (resource l)) on stepOf (l .loop .count) 0 (l .loop .steps) (drop (l .loop .next) (text l)) _ _ _ (l .loop .inv .0) ∙ kept-length 10 (stepOf []) (map stepOf (rows (text l) (start l) (resource l))) in
+    let long = room 2 (of (resource l)) on stepOf (l .loop .count) 0 (l .loop .steps) (drop (l .loop .next) (text l)) _ _ _ (l .loop .inv .0) ∙ kept-length mostSteps (stepOf []) (map stepOf (rows (text l) (start l) (resource l))) in
     turns 2 (of (resource l)) on stepOf (l .loop .count) 0 (l .loop .steps) (drop (l .loop .next) (text l)) _ _ _ (l .loop .inv .0) (h .x) (h .is)
     0 refl (c .if2 .steps)
     (⊎-elim (λ w. w .2 ∙ ap (set (l .loop .steps) (l .loop .count)) (step-by (came (x .second) (w .1 .given .1 .1 .0 .1) ∙ h .second) (came (x .third) (w .1 .given .1 .1 .1 .0 .1) ∙ h .third)))
