@@ -89,7 +89,8 @@ uint64_t noskjerf_bid(uint64_t month, int64_t start, size_t count, const int64_t
  * Works out the default energy bid of a resource from its costs.
  *
  * `points` holds the quantity (mw) and the average heat rate (heat) of each of `count` points in turn. `charges` holds gas, rate,
- * allowance, om, msc, soc and fee, in this order.
+ * allowance, om, msc, soc and fee, in this order. The curve has a step between each two neighbouring points, and two where the 80% mark,
+ * 4/5 of the last quantity rounded down, lies strictly between them.
  *
  * Answers 0 and fills the buffers:
  *   edges[0]                how many steps the curve has, 1 to 11

@@ -40,6 +40,7 @@
     "interval resource end price\n" \
     i " 0 15000 300000\n" \
     i " 0 20000 378402\n" \
+    i " 0 24000 444403\n" \
     i " 0 30000 488402\n"
 
 #define REFUSAL(number_and_line) "refusal line\n" number_and_line "\n"

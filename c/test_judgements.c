@@ -165,12 +165,14 @@ static int two_points(int64_t expected, int64_t mw, int64_t heat, int64_t next_m
 static void test_curve_of_t(void)
 {
     CHECK(answer(3, points_of_t, LENGTH(points_of_t), charges_of_t) == 0);
-    CHECK(edges[0] == 2);
+    CHECK(edges[0] == 3);
     CHECK(edges[1] == 10000);
     CHECK(edges[2] == 20000);
-    CHECK(edges[3] == 30000);
+    CHECK(edges[3] == 24000);
+    CHECK(edges[4] == 30000);
     CHECK(prices[0] == 378402);
-    CHECK(prices[1] == 488402);
+    CHECK(prices[1] == 444403);
+    CHECK(prices[2] == 488402);
     CHECK(edges[NOSKJERF_EDGES] == BEFORE);
     CHECK(prices[NOSKJERF_PRICES] == BEFORE);
 }
@@ -178,23 +180,25 @@ static void test_curve_of_t(void)
 /* Rates and rounding: fuel 1, greenhouse 1 and fee part 34 make 36, and 39.6 is rounded up. */
 static void test_rounding(void)
 {
-    static const int64_t points[] = { 0, 1, 3, 1 };
+    static const int64_t points[] = { 9, 1, 12, 1, 15, 1 };
     static const int64_t charges[NOSKJERF_CHARGES] = { 1, 1, 1, 0, 0, 0, 1 };
-    CHECK(answer(2, points, LENGTH(points), charges) == 0);
-    CHECK(edges[0] == 1);
-    CHECK(edges[1] == 0);
-    CHECK(edges[2] == 3);
+    CHECK(answer(3, points, LENGTH(points), charges) == 0);
+    CHECK(edges[0] == 2);
+    CHECK(edges[1] == 9);
+    CHECK(edges[2] == 12);
     CHECK(prices[0] == 40);
 }
 
-/* Up to 80% of the last quantity the incremental heat rate is limited to the larger heat rate, here 10,000; past it, it is 17,142. */
+/* Up to the 80% mark the incremental heat rate is limited to the larger heat rate, here 10,000; past it, it is 17,142. The mark splits what it lies inside. */
 static void test_eighty_percent(void)
 {
     static const int64_t within[] = { 10000, 1, 24000, 10000, 30000, 10000 };
     static const int64_t past[] = { 10000, 1, 24001, 10000, 30000, 10000 };
     static const int64_t charges[NOSKJERF_CHARGES] = { 1000, 0, 0, 0, 0, 0, 0 };
-    CHECK(answer(3, within, LENGTH(within), charges) == 0 && prices[0] == 11000);
-    CHECK(answer(3, past, LENGTH(past), charges) == 0 && prices[0] == 18857);
+    CHECK(answer(3, within, LENGTH(within), charges) == 0 && edges[0] == 2 && prices[0] == 11000);
+    CHECK(answer(3, past, LENGTH(past), charges) == 0 && edges[0] == 3);
+    CHECK(edges[2] == 24000 && prices[0] == 11000);
+    CHECK(edges[3] == 24001 && prices[1] == 18857);
 }
 
 /* Fuel comes from the largest incremental heat rate so far, greenhouse from the step's own: 10,000 + 799 + 50,000 make 60,799. */
@@ -203,9 +207,10 @@ static void test_falling_heat_rate(void)
     static const int64_t points[] = { 10000, 10000, 20000, 10000, 20100, 9990 };
     static const int64_t charges[NOSKJERF_CHARGES] = { 1000, 100000, 1000, 0, 0, 0, 50000 };
     CHECK(answer(3, points, LENGTH(points), charges) == 0);
-    CHECK(edges[0] == 2);
-    CHECK(prices[0] == 12650);
-    CHECK(prices[1] == 66879);
+    CHECK(edges[0] == 3);
+    CHECK(prices[0] == 13006);
+    CHECK(prices[1] == 13504);
+    CHECK(prices[2] == 66879);
 }
 
 /* A narrow step's fee exceeds its right neighbour's, which is raised to its price. */
@@ -214,11 +219,13 @@ static void test_raised_price(void)
     static const int64_t points[] = { 10000, 10000, 10100, 10000, 20100, 10000 };
     static const int64_t charges[NOSKJERF_CHARGES] = { 1000, 0, 0, 0, 0, 0, 50000 };
     CHECK(answer(3, points, LENGTH(points), charges) == 0);
-    CHECK(edges[0] == 2);
+    CHECK(edges[0] == 3);
     CHECK(edges[2] == 10100);
-    CHECK(edges[3] == 20100);
+    CHECK(edges[3] == 16080);
+    CHECK(edges[4] == 20100);
     CHECK(prices[0] == 66000);
     CHECK(prices[1] == 66000);
+    CHECK(prices[2] == 66000);
 }
 
 /* The answer for `count` of the 12 points that rise by 100 with heat rate 1, all charges 0: fuel and greenhouse are 0 as well. */
@@ -238,10 +245,28 @@ static void test_point_count(void)
 {
     CHECK(rising_points(0) == 4 && untouched());
     CHECK(rising_points(1) == 4 && untouched());
-    CHECK(rising_points(2) == 0 && edges[0] == 1);
+    CHECK(rising_points(2) == 0 && edges[0] == 2 && edges[2] == 80);
     CHECK(rising_points(11) == 0 && edges[0] == 10 && edges[11] == 1000 && prices[9] == 0);
     CHECK(rising_points(12) == 4 && untouched());
     CHECK(rising_points(SIZE_MAX) == 4 && untouched());
+}
+
+/* Eleven points whose 80% mark, 808, lies inside a segment make eleven steps. */
+static void test_eleven_steps(void)
+{
+    static const int64_t charges[NOSKJERF_CHARGES];
+    int64_t points[22];
+    size_t i;
+    for (i = 0; i < 11; i++) {
+        points[2 * i] = 101 * (int64_t)i;
+        points[2 * i + 1] = 1;
+    }
+    CHECK(answer(11, points, LENGTH(points), charges) == 0 && edges[0] == 10);
+    points[16] = 809;
+    CHECK(answer(11, points, LENGTH(points), charges) == 0 && edges[0] == 11);
+    CHECK(edges[9] == 808 && edges[10] == 809 && edges[12] == 1010 && prices[10] == 0);
+    CHECK(edges[NOSKJERF_EDGES] == BEFORE);
+    CHECK(prices[NOSKJERF_PRICES] == BEFORE);
 }
 
 static void test_points(void)
@@ -285,7 +310,7 @@ static void test_incremental_heat_rate(void)
     CHECK(two_points(0, 2, 50003, 3, 2));
     CHECK(two_points(8, 2, 50002, 3, 1));
     CHECK(answer(3, at_the_end, LENGTH(at_the_end), charges_of_t) == 8 && untouched());
-    CHECK(answer(4, limited, LENGTH(limited), charges_of_t) == 0 && edges[0] == 3);
+    CHECK(answer(4, limited, LENGTH(limited), charges_of_t) == 0 && edges[0] == 4);
 }
 
 /* The lowest number wins, over the whole table. */
@@ -331,6 +356,7 @@ int main(void)
     test_falling_heat_rate();
     test_raised_price();
     test_point_count();
+    test_eleven_steps();
     test_points();
     test_charges();
     test_incremental_heat_rate();

@@ -21,9 +21,10 @@ pub struct Costs {
     pub fee: i128,
 }
 
-/// Two neighbouring points: w, and R after the 80% limit.
-struct Segment {
-    width: i128,
+/// A segment, or a part of one that is split: its edges, and R after the 80% limit.
+struct Piece {
+    from: i128,
+    to: i128,
     heat_rate: i128,
 }
 
@@ -45,20 +46,63 @@ fn limited_heat_rate(left: Point, right: Point, pmax: i128) -> i128 {
 }
 
 /// "PMax is the last m."
-fn segments(points: &[Point]) -> Vec<Segment> {
-    let pmax = points[points.len() - 1].m;
-    let segment = |pair: &[Point]| Segment {
-        width: pair[1].m - pair[0].m,
-        heat_rate: limited_heat_rate(pair[0], pair[1], pmax),
+fn pmax(points: &[Point]) -> i128 {
+    points[points.len() - 1].m
+}
+
+/// "k, which is 4 × PMax / 5 rounded down"
+pub fn mark(points: &[Point]) -> i128 {
+    4 * pmax(points) / 5
+}
+
+/// "where k lies strictly inside it"
+fn is_split(left: Point, right: Point, k: i128) -> bool {
+    left.m < k && k < right.m
+}
+
+/// Whether some segment is split.
+pub fn has_split(points: &[Point]) -> bool {
+    let k = mark(points);
+    points.windows(2).any(|pair| is_split(pair[0], pair[1], k))
+}
+
+/// "Both parts take n and w of the whole segment for R; the lower part is limited, the upper isn't."
+fn split(left: Point, right: Point, k: i128) -> Vec<Piece> {
+    let r = incremental_heat_rate(left, right);
+    let lower = Piece {
+        from: left.m,
+        to: k,
+        heat_rate: r.min(left.h.max(right.h)),
     };
-    points.windows(2).map(segment).collect()
+    let upper = Piece {
+        from: k,
+        to: right.m,
+        heat_rate: r,
+    };
+    vec![lower, upper]
+}
+
+fn pieces(points: &[Point]) -> Vec<Piece> {
+    let (pmax, k) = (pmax(points), mark(points));
+    let of_segment = |pair: &[Point]| {
+        let (left, right) = (pair[0], pair[1]);
+        if is_split(left, right, k) {
+            return split(left, right, k);
+        }
+        vec![Piece {
+            from: left.m,
+            to: right.m,
+            heat_rate: limited_heat_rate(left, right, pmax),
+        }]
+    };
+    points.windows(2).flat_map(of_segment).collect()
 }
 
 /// "M is the largest R so far, from the left."
-fn largest_so_far(segments: &[Segment], index: usize) -> i128 {
-    segments[..=index]
+fn largest_so_far(pieces: &[Piece], index: usize) -> i128 {
+    pieces[..=index]
         .iter()
-        .map(|segment| segment.heat_rate)
+        .map(|piece| piece.heat_rate)
         .max()
         .unwrap()
 }
@@ -79,14 +123,15 @@ fn fee_part(w: i128, costs: &Costs) -> i128 {
 }
 
 /// "cost = fuel + greenhouse + om + msc + soc + fee part; step price = 11 × cost / 10, up."
-fn own_price(segments: &[Segment], index: usize, costs: &Costs) -> i128 {
-    let segment = &segments[index];
-    let cost = fuel(largest_so_far(segments, index), costs)
-        + greenhouse(segment.heat_rate, costs)
+/// "The fee is spread over each part's own width."
+fn own_price(pieces: &[Piece], index: usize, costs: &Costs) -> i128 {
+    let piece = &pieces[index];
+    let cost = fuel(largest_so_far(pieces, index), costs)
+        + greenhouse(piece.heat_rate, costs)
         + costs.om
         + costs.msc
         + costs.soc
-        + fee_part(segment.width, costs);
+        + fee_part(piece.to - piece.from, costs);
     up(11 * cost, 10)
 }
 
@@ -128,27 +173,27 @@ fn costs_in_range(costs: &Costs) -> bool {
         && within(costs.fee, 0, 1_000_000)
 }
 
-/// "The curve starts at the first m and each later m ends one step."
+/// "The curve starts at the first m and each later m ends one step", and so does k where it splits a segment.
 pub fn default_curve(points: &[Point], costs: &Costs) -> Result<Curve, Refusal> {
     check(points, costs)?;
-    let segments = segments(points);
+    let pieces = pieces(points);
     // 8: "an R, after the 80% limit, outside -100,000 to 100,000"
-    if !segments
+    if !pieces
         .iter()
-        .all(|segment| within(segment.heat_rate, -100_000, 100_000))
+        .all(|piece| within(piece.heat_rate, -100_000, 100_000))
     {
         return Err(8);
     }
-    let own_prices: Vec<i128> = (0..segments.len())
-        .map(|index| own_price(&segments, index, costs))
+    let own_prices: Vec<i128> = (0..pieces.len())
+        .map(|index| own_price(&pieces, index, costs))
         .collect();
     let step = |index: usize| Step {
-        end: points[index + 1].m,
+        end: pieces[index].to,
         price: raised(&own_prices, index),
     };
     Ok(Curve {
         start: points[0].m,
-        steps: (0..segments.len()).map(step).collect(),
+        steps: (0..pieces.len()).map(step).collect(),
     })
 }
 
@@ -172,8 +217,23 @@ mod tests {
             ..Costs::default()
         };
         let curve = default_curve(&points, &costs).unwrap();
-        assert_eq!(curve.prices(), [378402, 488402]);
-        assert_eq!(curve.edges(), [10000, 20000, 30000]);
+        assert_eq!(curve.prices(), [378402, 444403, 488402]);
+        assert_eq!(curve.edges(), [10000, 20000, 24000, 30000]);
+    }
+
+    #[test]
+    fn the_mark_splits_only_what_it_lies_strictly_inside() {
+        let edges = |pairs| {
+            default_curve(&points(pairs), &Costs::default())
+                .unwrap()
+                .edges()
+        };
+        assert_eq!(edges(&[(0, 1), (7, 1)]), [0, 5, 7]);
+        assert_eq!(edges(&[(0, 1), (1, 1)]), [0, 1]);
+        assert_eq!(edges(&[(2, 1), (8, 1), (10, 1)]), [2, 8, 10]);
+        assert_eq!(edges(&[(8, 1), (10, 1)]), [8, 10]);
+        assert_eq!(edges(&[(9, 1), (10, 1)]), [9, 10]);
+        assert_eq!(edges(&[(2, 1), (9, 1), (10, 1)]), [2, 8, 9, 10]);
     }
 
     #[test]
@@ -217,6 +277,6 @@ mod tests {
             ..Costs::default()
         };
         let curve = default_curve(&points(&[(0, 1), (1, 1), (101, 1)]), &costs).unwrap();
-        assert_eq!(curve.prices(), [1100, 1100]);
+        assert_eq!(curve.prices(), [1100, 1100, 1100]);
     }
 }

@@ -1,7 +1,8 @@
 //! What a range of seeds reaches.
 
+use crate::curve::Curve;
 use crate::generate;
-use crate::hour::component;
+use crate::hour::{component, Resource};
 use crate::print::{answer, by_weight, print, Accepted, Answer};
 use crate::verdict::{Verdict, COMPETITIVE, NON_COMPETITIVE, NOT_BINDING};
 use std::ops::Range;
@@ -33,7 +34,13 @@ pub struct Coverage {
     /// Those of which two sellers named withhold the same.
     pub equal_sellers: usize,
     pub most_steps: usize,
-    pub curves_of_19_steps: usize,
+    pub curves_of_20_steps: usize,
+    /// Default curves of accepted intervals with a split segment, with the 80% mark at a point, and of 11 steps.
+    pub split_segments: usize,
+    pub marks_at_a_point: usize,
+    pub default_curves_of_11_steps: usize,
+    /// Printed curves in which the two parts of a split segment have prices of their own.
+    pub curves_with_both_parts: usize,
     pub curves_cut: usize,
     pub curves_cut_further: usize,
     /// Quantities whose submitted price is exactly a cap.
@@ -145,7 +152,8 @@ impl Coverage {
     fn count_curves(&mut self, accepted: &Accepted) {
         for (curve, resource) in accepted.curves.iter().zip(&accepted.hour.resources) {
             self.most_steps = self.most_steps.max(curve.steps.len());
-            self.curves_of_19_steps += usize::from(curve.steps.len() == 19);
+            self.curves_of_20_steps += usize::from(curve.steps.len() == 20);
+            self.count_split(curve, resource);
             self.prices_negative += curve.prices().iter().filter(|&&price| price < 0).count();
             let at_cap = |&edge: &i128| {
                 let submitted = resource.bid.price(edge);
@@ -158,6 +166,16 @@ impl Coverage {
             };
             self.prices_at_cap += curve.edges().iter().filter(|edge| at_cap(edge)).count();
         }
+    }
+
+    fn count_split(&mut self, curve: &Curve, resource: &Resource) {
+        let default = &resource.default_energy_bid;
+        self.split_segments += usize::from(resource.is_split);
+        self.marks_at_a_point += usize::from(resource.mark_at_point);
+        self.default_curves_of_11_steps += usize::from(default.steps.len() == 11);
+        let mark = 4 * default.end() / 5;
+        self.curves_with_both_parts +=
+            usize::from(resource.is_split && curve.edges().contains(&mark));
     }
 
     fn count_cuts(&mut self, accepted: &Accepted, before: Option<&Accepted>) {
@@ -176,9 +194,13 @@ impl Coverage {
             && self.refusals_after.iter().all(|&count| count > 0)
             && self.sizes.iter().all(|&count| count > 0)
             && self.verdicts.iter().all(|&count| count > 0)
-            && self.most_steps == 19
+            && self.most_steps == 20
             && [
                 self.accepted_intervals,
+                self.split_segments,
+                self.marks_at_a_point,
+                self.default_curves_of_11_steps,
+                self.curves_with_both_parts,
                 self.at_equality,
                 self.one_above,
                 self.ties,

@@ -8,12 +8,17 @@ pub struct Step {
     pub price: i128,
 }
 
-/// "A curve has a start and 1 to 10 steps (end, price)."
+/// "A curve has a start and 1 to 10 steps (end, price)"; "refusal 1 allows a default curve 11".
 #[derive(Clone, Debug, PartialEq, Eq)]
 pub struct Curve {
     pub start: i128,
     pub steps: Vec<Step>,
 }
+
+pub const MOST_BID_STEPS: i128 = 10;
+
+/// "refusal 1 allows a default curve 11"
+pub const MOST_DEFAULT_STEPS: i128 = 11;
 
 pub const LOWEST_BID_PRICE: i128 = -1_500_000;
 
@@ -59,9 +64,9 @@ impl Curve {
     }
 
     /// Refusals 1 to 3; the lowest number wins.
-    pub fn check(&self, lowest: i128, highest: i128) -> Result<(), Refusal> {
+    pub fn check(&self, most: i128, lowest: i128, highest: i128) -> Result<(), Refusal> {
         // 1: "step count outside 1 to 10"
-        if !within(self.steps.len() as i128, 1, 10) {
+        if !within(self.steps.len() as i128, 1, most) {
             return Err(1);
         }
         // 2: "an edge outside 0 to 1,000,000, or edges not rising"
@@ -80,11 +85,15 @@ impl Curve {
 
 /// "A bid price is at least -1,500,000 and at most ..."
 pub fn check_bid(bid: &Curve, month: i128) -> Result<(), Refusal> {
-    bid.check(LOWEST_BID_PRICE, highest_bid_price(month))
+    bid.check(MOST_BID_STEPS, LOWEST_BID_PRICE, highest_bid_price(month))
 }
 
 pub fn check_default(default_energy_bid: &Curve) -> Result<(), Refusal> {
-    default_energy_bid.check(-FURTHEST_DEFAULT_PRICE, FURTHEST_DEFAULT_PRICE)
+    default_energy_bid.check(
+        MOST_DEFAULT_STEPS,
+        -FURTHEST_DEFAULT_PRICE,
+        FURTHEST_DEFAULT_PRICE,
+    )
 }
 
 /// "Neighbouring steps with one price are merged."

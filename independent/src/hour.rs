@@ -1,6 +1,6 @@
 //! Interval and hour (31.2.3, 34.1.5).
 
-use crate::costs::{default_curve, Costs, Point};
+use crate::costs::{default_curve, has_split, mark, Costs, Point};
 use crate::curve::{check_bid, check_default, merged, Curve, Step};
 use crate::numbers::{is_quantity, up, within, Refusal, MILLION};
 use crate::verdict::{
@@ -46,6 +46,9 @@ pub struct Resource {
     pub portfolio: usize,
     pub bid: Curve,
     pub default_energy_bid: Curve,
+    /// Whether the 80% mark splits a segment, and whether it is a point's quantity.
+    pub is_split: bool,
+    pub mark_at_point: bool,
     /// L of each accepted interval in which the resource was dispatched and C above 0.
     pub floor_prices: Vec<i128>,
 }
@@ -108,6 +111,8 @@ impl Offer {
             portfolio: self.portfolio as usize,
             bid: self.bid.clone(),
             default_energy_bid,
+            is_split: has_split(&self.points),
+            mark_at_point: self.points.iter().any(|point| point.m == mark(&self.points)),
             floor_prices: Vec::new(),
         })
     }
@@ -296,6 +301,8 @@ mod tests {
             portfolio: 0,
             bid: curve(bid),
             default_energy_bid: curve(default),
+            is_split: false,
+            mark_at_point: false,
             floor_prices: floor_prices.to_vec(),
         }
     }

@@ -124,6 +124,8 @@ mod tests {
                 portfolio: 0,
                 bid: curve(900_000),
                 default_energy_bid: curve(378_402),
+                is_split: false,
+                mark_at_point: false,
                 floor_prices: Vec::new(),
             }],
             accepted: 0,

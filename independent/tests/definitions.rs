@@ -35,7 +35,7 @@ fn check_shape(accepted: &Accepted, resource: usize) {
     assert_eq!((curve.start, curve.end()), (bid.start, bid.end()));
     assert!(curve.edges().windows(2).all(|pair| pair[0] < pair[1]));
     assert!(curve.prices().windows(2).all(|pair| pair[0] < pair[1]));
-    assert!(curve.steps.len() <= 19);
+    assert!(curve.steps.len() <= 20);
 }
 
 #[test]

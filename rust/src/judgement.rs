@@ -80,7 +80,8 @@ pub struct DefaultCurve {
     pub steps: Vec<Step>,
 }
 
-/// Works out the default energy bid of a resource from its costs: one step between each two neighbouring points.
+/// Works out the default energy bid of a resource from its costs: one step between each two neighbouring points, and two where the 80%
+/// mark, 4/5 of the last quantity rounded down, lies strictly between them.
 ///
 /// The refusal is the lowest of 4 (the count of the points), 5 (their quantities), 6 (their heat rates), 7 (the charges) and 8 (an
 /// incremental heat rate) that applies.
@@ -93,7 +94,8 @@ pub struct DefaultCurve {
 /// let curve = default_curve(&points, &charges)?;
 /// assert_eq!(curve.start, 10000);
 /// assert_eq!((curve.steps[0].end, curve.steps[0].price), (20000, 378402));
-/// assert_eq!((curve.steps[1].end, curve.steps[1].price), (30000, 488402));
+/// assert_eq!((curve.steps[1].end, curve.steps[1].price), (24000, 444403));
+/// assert_eq!((curve.steps[2].end, curve.steps[2].price), (30000, 488402));
 /// # Ok::<(), noskjerf::judgement::Refused>(())
 /// ```
 pub fn default_curve(points: &[Point], charges: &Charges) -> Result<DefaultCurve, Refused> {
@@ -209,9 +211,19 @@ mod tests {
     fn costs_have_2_to_11_points() {
         assert_eq!(costs(&[], &TOP), Err(4));
         assert_eq!(costs(&rising(1), &TOP), Err(4));
-        assert_eq!(costs(&rising(2), &TOP).unwrap().steps.len(), 1);
-        assert_eq!(costs(&rising(11), &TOP).unwrap().steps.len(), 10);
+        assert_eq!(costs(&[(8, 1), (10, 1)], &TOP).unwrap().steps.len(), 1);
+        assert_eq!(costs(&rising(10), &TOP).unwrap().steps.len(), 9);
         assert_eq!(costs(&rising(12), &TOP), Err(4));
+    }
+
+    #[test]
+    fn the_80_percent_mark_splits_a_segment() {
+        let ends = |points: &[(i64, i64)]| -> Vec<i64> { costs(points, &TOP).unwrap().steps.iter().map(|step| step.end).collect() };
+        assert_eq!(ends(&[(0, 1), (7, 1)]), [5, 7]);
+        assert_eq!(ends(&[(2, 1), (8, 1), (10, 1)]), [8, 10]);
+        assert_eq!(ends(&[(2, 1), (9, 1), (10, 1)]), [8, 9, 10]);
+        // 4/5 of 1,100 is inside the segment from 800 to 900: eleven points, eleven steps
+        assert_eq!(costs(&rising(11), &TOP).unwrap().steps.len(), 11);
     }
 
     #[test]
@@ -250,7 +262,7 @@ mod tests {
 
     #[test]
     fn each_charge_has_its_place() {
-        // one step of 3: a price of 11/10 of each charge's own part, up
+        // a first step of 2: a price of 11/10 of each charge's own part, up
         let price = |charges: Charges| costs(&[(0, 2000), (3, 2000)], &charges).unwrap().steps[0].price;
         let none = Charges::default();
         assert_eq!(price(none), 0);
@@ -266,7 +278,7 @@ mod tests {
         assert_eq!(price(Charges { om: 10, ..none }), 11);
         assert_eq!(price(Charges { msc: 20, ..none }), 22);
         assert_eq!(price(Charges { soc: 30, ..none }), 33);
-        assert_eq!(price(Charges { fee: 3, ..none }), 110);
+        assert_eq!(price(Charges { fee: 3, ..none }), 165);
     }
 
     #[test]

@@ -42,7 +42,7 @@
 //!
 //! // the bid of resource 0 was 300000 and 900000; the second step is cut
 //! let prices: Vec<i64> = page.curves[0].steps.iter().map(|step| step.price).collect();
-//! assert_eq!(prices, [300000, 378402, 488402]);
+//! assert_eq!(prices, [300000, 378402, 444403, 488402]);
 //! ```
 //!
 //! [`Hour`] drives an hour interval by interval, and [`judgement`] judges one bid or works out one default energy bid.

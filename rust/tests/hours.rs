@@ -83,9 +83,9 @@ fn a_cut_carries_on() {
     let dear = hour.interval(INTERVAL.replace("600000", "749900").as_bytes()).unwrap();
     assert_eq!(prices(&dear), [300000, 500000]);
     let cheap = hour.interval(INTERVAL.as_bytes()).unwrap();
-    assert_eq!(prices(&cheap), [300000, 378402, 488402]);
+    assert_eq!(prices(&cheap), [300000, 378402, 444403, 488402]);
     let dear_again = hour.interval(INTERVAL.replace("600000", "749900").as_bytes()).unwrap();
-    assert_eq!(prices(&dear_again), [300000, 378402, 488402]);
+    assert_eq!(prices(&dear_again), [300000, 378402, 444403, 488402]);
 }
 
 #[test]

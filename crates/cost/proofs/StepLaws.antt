@@ -13,32 +13,32 @@ use Rattle.rules_number.proofs.OverLaws.{listed-length, padded-next, all-next, 
 use Rattle.rules_curve.specs.Curves.{mostSteps, stepTo, blankStep}
 use Rattle.rules_curve.specs.declared.Step.{Step}
 use Rattle.rules_curve.specs.declared.Curve.{Curve}
-use Rattle.rules_cost.specs.Costs.{pointAt, mwAt, stepCount, width, rateAt, withAdder, stepPrice, raisedPrice, largestRate, costStep, costCurve, rateInRange, pointsGood, mwGood, pricesInRange, ratesGood}
+use Rattle.rules_cost.specs.Costs.{mwAt, stepCount, endAt, edgeAt, widthAt, rateAt, withAdder, stepPrice, raisedPrice, largestRate, costStep, costCurve, rateInRange, pointsGood, mwGood, pricesInRange, ratesGood}
 use Rattle.rules_number.proofs.HighestLaws.{highestFrom}
 use Rattle.rules_cost.proofs.RangeLaws.{few}
 use Rattle.rules_cost.proofs.CostLaws.{largest-from, raised-from}
-use Rattle.rules_cost.specs.declared.Point.{Point}
+use Rattle.rules_cost.proofs.EdgeLaws.{eleven-suffice}
 use Rattle.rules_cost.specs.declared.Costs.{Costs}
 
--- after i steps: the point reached, the largest rate M and the highest price p so far, and the steps stored
-pub record Stepped (c : Costs) (from : Point) (M p : ℤ) (steps : List Step) (i : ℕ) : Type 0 where
+-- after i steps: the edge reached, the largest rate M and the highest price p so far, and the steps stored
+pub record Stepped (c : Costs) (edge M p : ℤ) (steps : List Step) (i : ℕ) : Type 0 where
   pub short : i ≤ stepCount c
-  pub reached : from ≡ pointAt c i
+  pub reached : edge ≡ edgeAt c i
   pub rates : allTo (λ j. rateInRange (rateAt c j)) i ≡ true
   pub largest : M ≡ highestFrom (negℤ (pos 100000)) (rateAt c) i
   pub price : p ≡ highestFrom (negℤ (pos 1000000000)) (stepPrice c) i
   pub stored : steps ≡ padded mostSteps blankStep (listed (costStep c) i)
 
-pub before-steps : (c : Costs) → Stepped c (pointAt c 0) (negℤ (pos 100000)) (negℤ (pos 1000000000)) (padded mostSteps blankStep (listed (costStep c) 0)) 0
-unfolding allTo highestFrom
-before-steps c = record { short = omega arith; reached = refl; rates = refl; largest = refl; price = refl; stored = refl }
+pub before-steps : (c : Costs) (edge : ℤ) → edge ≡ mwAt c 0 → Stepped c edge (negℤ (pos 100000)) (negℤ (pos 1000000000)) (padded mostSteps blankStep (listed (costStep c) 0)) 0
+unfolding allTo highestFrom edgeAt
+before-steps c edge e = record { short = omega arith; reached = e; rates = refl; largest = refl; price = refl; stored = refl }
 
 module _ (c : Costs) (points : pointsGood c ≡ true) (quantities : mwGood c ≡ true) (prices : pricesInRange c ≡ true)
-    {from : Point} {M p : ℤ} {steps : List Step} (i : ℕ) (done : Stepped c from M p steps i) where
-  -- one more step, with rate R
-  module _ (more : i < stepCount c) (R M' x p' : ℤ) (w e : ℕ)
+    {edge M p : ℤ} {steps : List Step} (i : ℕ) (done : Stepped c edge M p steps i) where
+  -- one more step, with rate R and end e
+  module _ (more : i < stepCount c) (R M' x p' edge' : ℤ) (w e : ℕ)
       (rate-is : R ≡ rateAt c i) (in-range : rateInRange R ≡ true) (M-is : M' ≡ maxZ M R)
-      (w-is : w ≡ width (pointAt c i) (pointAt c (i + 1))) (x-is : x ≡ withAdder c M' R w) (p-is : p' ≡ maxZ p x) (e-is : e ≡ natOf (mwAt c (i + 1))) where
+      (w-is : w ≡ widthAt c i) (x-is : x ≡ withAdder c M' R w) (p-is : p' ≡ maxZ p x) (e-is : e ≡ natOf (endAt c i)) (edge-is : edge' ≡ endAt c i) where
     rates' : allTo (λ j. rateInRange (rateAt c j)) (i + 1) ≡ true
     rates' = all-next (λ j. rateInRange (rateAt c j)) i (done .rates) (rw rate-is at in-range)
 
@@ -54,7 +54,7 @@ module _ (c : Costs) (points : pointsGood c ≡ true) (quantities : mwGood c ≡
 
     price-is : x ≡ stepPrice c i
     unfolding stepPrice
-    price-is = x-is ∙ rw (largest-is, rate-is, w-is, add-one i)
+    price-is = x-is ∙ rw (largest-is, rate-is, w-is)
 
     price' : p' ≡ highestFrom (negℤ (pos 1000000000)) (stepPrice c) (suc i)
     unfolding highestFrom
@@ -63,12 +63,13 @@ module _ (c : Costs) (points : pointsGood c ≡ true) (quantities : mwGood c ≡
     raised-is : p' ≡ raisedPrice c i
     raised-is = price' ∙ raised-from c prices quantities (suc i) (omega arith) rates-suc i (omega arith)
 
-    pub next-step : Stepped c (pointAt c (i + 1)) M' p' (set steps i (stepTo e p')) (i + 1)
+    pub next-step : Stepped c edge' M' p' (set steps i (stepTo e p')) (i + 1)
+    unfolding edgeAt
     next-step =
-        let n = few c points in
+        let n = eleven-suffice c (few c points .1) in
         record {
           short = omega arith;
-          reached = refl;
+          reached = rw (add-one i) edge-is;
           rates = rates';
           largest = rw (add-one i) largest';
           price = rw (add-one i) price';

@@ -6,27 +6,90 @@ use rules_curve::Curve;
 use rules_curve::Outcome;
 use rules_curve::Refusal;
 use rules_curve::Step;
-ghost use mathlib.Core.Bool.{true};
+ghost use mathlib.Core.Bool.{true, _&&_, cond};
 ghost use mathlib.Core.Path.{_≡_};
-ghost use Prim.Native.Nat.{_≤_, _<_};
+ghost use Prim.Native.Nat.{suc, _-_, _*_, _/_, _≤_, _<_};
+ghost use lib.Dec.{leb, ltb, eqb};
+ghost use lib.IntN.{pos};
+ghost use lib.Signed.{ltZ};
 ghost use Rattle.rules_number.specs.Order.{natOf};
 ghost use Rattle.rules_curve.specs.Refusals.{outcomeNumber, unless};
 ghost use Rattle.rules_curve.specs.Curves.{unlessRefused};
-ghost use Rattle.rules_cost.specs.Costs.{mostPoints, mwInRange, heatInRange, rateInRange, incrementalRate, withAdder, costCurve, pointsGood, mwGood, heatGood, chargesInRange, pricesInRange, ratesGood, costRefusal};
+ghost use Rattle.rules_cost.specs.Costs.{mostPoints, mark, splitAt, mwInRange, heatInRange, rateInRange, incrementalRate, withAdder, costCurve, pointsGood, mwGood, heatGood, chargesInRange, pricesInRange, ratesGood, costRefusal};
 
-// R, the incremental heat rate from this point to the next, after the 80% limit.
-fn incremental_rate(from: Point, next: Point, pmax: i64) -> i64
-    requires quantities { ⌜ (mwInRange (from .mw) ≡ true) × ((mwInRange (next .mw) ≡ true) × (mwInRange pmax ≡ true)) ⌝ }
+// R, the incremental heat rate from this point to the next, after the 80% limit on a step that ends at `end`.
+fn incremental_rate(from: Point, next: Point, end: i64, pmax: i64) -> i64
+    requires quantities { ⌜ (mwInRange (from .mw) ≡ true) × ((mwInRange (next .mw) ≡ true) × ((mwInRange end ≡ true) × (mwInRange pmax ≡ true))) ⌝ }
     requires heats { ⌜ (heatInRange (from .heat) ≡ true) × (heatInRange (next .heat) ≡ true) ⌝ }
-    ensures { λ r. ⌜ r ≡ incrementalRate pmax from next ⌝ }
+    ensures { λ r. ⌜ r ≡ incrementalRate pmax end from next ⌝ }
 {
     let n = next.heat * next.mw - from.heat * from.mw;
     let r = number::ceil_by(n, next.mw - from.mw);
-    if 5 * next.mw <= 4 * pmax {
+    if 5 * end <= 4 * pmax {
         number::min(r, number::max(from.heat, next.heat))
     } else {
         r
     }
+}
+
+// The 80% mark k: 4 × PMax / 5, rounded down.
+fn mark_of(pmax: i64) -> i64
+    requires { ⌜ mwInRange pmax ≡ true ⌝ }
+    ensures { λ r. ⌜ r ≡ pos (4 * natOf pmax / 5) ⌝ }
+{
+    (4 * number::whole(pmax) / 5) as i64
+}
+
+// Whether k lies strictly inside a segment.
+fn lies_inside(from: i64, k: i64, to: i64) -> bool
+    ensures { λ r. ⌜ r ≡ (ltZ from k && ltZ k to) ⌝ }
+{
+    from < k && k < to
+}
+
+// The number of the segment that the mark k splits, or that of all segments where it splits none.
+fn split_at(costs: Costs, k: i64) -> usize
+    requires points { ⌜ pointsGood costs ≡ true ⌝ }
+    requires mark { ⌜ k ≡ mark costs ⌝ }
+    ensures { λ r. ⌜ r ≡ splitAt costs ⌝ }
+{
+    let n = costs.count - 1;
+    let mut i: usize = 0;
+    while i < n {
+        let from = costs.points[i];
+        let to = costs.points[i + 1];
+        if lies_inside(from.mw, k, to.mw) {
+            return i;
+        }
+        i += 1;
+    }
+    n
+}
+
+// How many steps so many segments make, of which the one with number `split` is two.
+fn steps_of(split: usize, segments: usize) -> usize
+    requires { ⌜ segments ≤ mostPoints ⌝ }
+    ensures { λ r. ⌜ r ≡ cond (ltb split segments) (suc segments) segments ⌝ }
+{
+    if split < segments {
+        segments + 1
+    } else {
+        segments
+    }
+}
+
+// The segment of step t.
+fn segment_of(split: usize, t: usize) -> usize
+    ensures { λ r. ⌜ r ≡ cond (leb t split) t (t - 1) ⌝ }
+{
+    if t <= split { t } else { t - 1 }
+}
+
+// Where step t ends: the lower part of the split segment at k, any other step where its segment does.
+fn end_of(split: usize, t: usize, k: i64, to: i64) -> i64
+    ensures { λ r. ⌜ r ≡ cond (eqb t split) k to ⌝ }
+{
+    if t == split { k } else { to }
 }
 
 // Whether each quantity is in range and above the one before it; any in range is above -1.
@@ -124,26 +187,32 @@ fn stepped(costs: Costs) -> Checked
     ensures number { λ r. ⌜ outcomeNumber (r .outcome) ≡ unless (ratesGood costs) 8 ⌝ }
     ensures curve { λ r. ⌜ r .curve ≡ unlessRefused (unless (ratesGood costs) 8) (costCurve costs) ⌝ }
 {
-    let count = costs.count - 1;
-    let top = costs.points[count];
+    let segments = costs.count - 1;
+    let top = costs.points[segments];
+    let k = mark_of(top.mw);
+    let split = split_at(costs, k);
+    let count = steps_of(split, segments);
     let first = costs.points[0];
-    let mut from = first;
+    let mut edge = first.mw;
     let mut largest = -Costs::MAX_INCREMENTAL;
     let mut price = Curve::LOWEST_DEFAULT;
     let mut steps = [Step { end: 0, price: 0 }; Curve::MAX_STEPS];
-    let mut i: usize = 0;
-    while i < count {
+    let mut t: usize = 0;
+    while t < count {
+        let i = segment_of(split, t);
+        let from = costs.points[i];
         let to = costs.points[i + 1];
-        let rate = incremental_rate(from, to, top.mw);
+        let end = end_of(split, t, k, to.mw);
+        let rate = incremental_rate(from, to, end, top.mw);
         if !number::within(rate, -Costs::MAX_INCREMENTAL, Costs::MAX_INCREMENTAL) {
             return curve::refused(Refusal::IncrementalRate);
         }
         largest = number::max(largest, rate);
-        price = number::max(price, step_price(costs, largest, rate, to.mw - from.mw));
-        let end = number::whole(to.mw);
-        steps[i] = Step { end, price };
-        from = to;
-        i += 1;
+        price = number::max(price, step_price(costs, largest, rate, end - edge));
+        let whole = number::whole(end);
+        steps[t] = Step { end: whole, price };
+        edge = end;
+        t += 1;
     }
     let curve = Curve {
         start: number::whole(first.mw),

@@ -12,9 +12,10 @@ use Rattle.rules_number.specs.Over.{allTo}
 use Rattle.rules_number.proofs.Kit.{lit, neg, var, le-by, Bd, bd-add, bd-mul, bd-lit, bd-le}
 use Rattle.rules_number.proofs.CeilSize.{bd-ceil}
 use Rattle.rules_number.proofs.OverLaws.{all-at, highest-ge, highest-bound}
-use Rattle.rules_cost.specs.Costs.{pointAt, stepCount, width, rateAt, largestRate, fuel, greenhouse, feePart, stepCost, withAdder, stepPrice, raisedPrice, rateInRange, mwGood, pricesInRange}
+use Rattle.rules_cost.specs.Costs.{stepCount, widthAt, rateAt, largestRate, fuel, greenhouse, feePart, stepCost, withAdder, stepPrice, raisedPrice, rateInRange, mwGood, pricesInRange}
 use Rattle.rules_number.proofs.HighestLaws.{highestFrom, highest-from, highest-from-bound}
-use Rattle.rules_cost.proofs.RangeLaws.{rate-size, rate-lowest, has-width, sizes}
+use Rattle.rules_cost.proofs.RangeLaws.{rate-size, rate-lowest, sizes}
+use Rattle.rules_cost.proofs.EdgeLaws.{width-above}
 use Rattle.rules_cost.specs.declared.Costs.{Costs}
 
 -- ---- the bound of a step's price
@@ -51,7 +52,7 @@ module _ (c : Costs) (prices : pricesInRange c ≡ true) (quantities : mwGood c 
   step-bound : (i : ℕ) → i < n → Bd 1000000000 (stepPrice c i)
   unfolding stepPrice
   step-bound i l =
-      price-size c prices (width (pointAt c i) (pointAt c (suc i))) (has-width c quantities i (omega arith))
+      price-size c prices (widthAt c i) (width-above c quantities i (omega arith))
       (largestRate c i) (rateAt c i) (largest-bound i l) (rate-bound i l)
 
   -- each price of the curve is within the range of a default curve

@@ -21,11 +21,12 @@ use Rattle.rules_curve.proofs.ChainLaws.{chain-listed}
 use Rattle.rules_curve.proofs.RawLaws.{rawStep, rawOf, raw-listed, raw-back}
 use Rattle.rules_curve.specs.declared.Curve.{Curve}
 use Rattle.rules_curve.specs.declared.Checked.{Checked}
-use Rattle.rules_cost.specs.Costs.{mwAt, stepCount, width, unlimited, isLimited, incrementalRate, rateAt, largestRate, stepPrice, raisedPrice, costStep, costCurve, mwGood, pricesInRange, ratesGood, costRefusal}
+use Rattle.rules_cost.specs.Costs.{mwAt, stepCount, endAt, edgeAt, width, unlimited, isLimited, incrementalRate, rateAt, largestRate, stepPrice, raisedPrice, costStep, costCurve, mwGood, pricesInRange, ratesGood, costRefusal}
 use Rattle.rules_number.specs.Least.{IsHighest}
 use Rattle.rules_number.proofs.HighestLaws.{highest-is-highest}
 use Rattle.rules_number.proofs.RangeLaws.{nat-is}
-use Rattle.rules_cost.proofs.RangeLaws.{few, mw-in, mw-rises}
+use Rattle.rules_cost.proofs.RangeLaws.{few, mw-in}
+use Rattle.rules_cost.proofs.EdgeLaws.{wide-step, some-step, eleven-suffice}
 use Rattle.rules_cost.proofs.CostLaws.{raised-bound, raised-never-falls}
 use Rattle.rules_cost.proofs.RefusalLaws.{passed}
 use Rattle.rules_cost.specs.declared.Point.{Point}
@@ -40,13 +41,13 @@ pub rounded-up : (p q : Point) → 0 < width p q
 unfolding unlimited
 rounded-up p q h = (ceil-ge (heatRise p q) (width p q) h, ceil-lt (heatRise p q) (width p q) h)
 
--- "If 5 × m' <= 4 × PMax, R is at most the larger of h and h'", and else it is n / w, up.
-module _ (top : ℤ) (p q : Point) where
-  pub limited : isLimited top (q .mw) ≡ true → incrementalRate top p q ≤ℤ maxZ (p .heat) (q .heat)
+-- "If 5 × m' <= 4 × PMax, R is at most the larger of h and h'", with the step's own end for m', and else it is n / w, up.
+module _ (top e : ℤ) (p q : Point) where
+  pub limited : isLimited top e ≡ true → incrementalRate top e p q ≤ℤ maxZ (p .heat) (q .heat)
   unfolding incrementalRate
   limited h = rw h (min-le-right (unlimited p q) (maxZ (p .heat) (q .heat)))
 
-  pub not-limited : isLimited top (q .mw) ≡ false → incrementalRate top p q ≡ unlimited p q
+  pub not-limited : isLimited top e ≡ false → incrementalRate top e p q ≡ unlimited p q
   unfolding incrementalRate
   not-limited h = rw h
 
@@ -83,20 +84,21 @@ module _ (c : Costs) (accepted : costRefusal c ≡ 0) where
   at-point : (i : ℕ) → i < c .count → (mwAt c i ≡ pos (natOf (mwAt c i))) × (natOf (mwAt c i) ≤ 1000000)
   at-point i l = nat-is 1000000 (mwAt c i) (mw-in c (passed c accepted .quantities) i l)
 
-  edge : (i : ℕ) → i < stepCount c → edgeSuits (pos (natOf (mwAt c i))) (rawStep (costStep c i)) ≡ true
+  edge : (i : ℕ) → i < stepCount c → edgeSuits (pos (natOf (edgeAt c i))) (rawStep (costStep c i)) ≡ true
   edge i l =
-      let here = at-point i (omega arith) in
-      let next = at-point (suc i) (omega arith) in
-      rw (below (mwAt c i) (mwAt c (suc i)) (mw-rises c (passed c accepted .quantities) i (omega arith)) (here .0) (next .0), le-leb (natOf (mwAt c (suc i))) 1000000 (next .1))
+      let w = wide-step c (passed c accepted .quantities) i l in
+      let here = nat-is 1000000 (edgeAt c i) (w .from-in) in
+      let next = nat-is 1000000 (endAt c i) (w .to-in) in
+      rw (below (edgeAt c i) (endAt c i) (w .rises) (here .0) (next .0), le-leb (natOf (endAt c i)) 1000000 (next .1))
 
   counted : countGood mostSteps (rawOf (costCurve c)) ≡ true
   unfolding costCurve
   counted =
       let n = few c (passed c accepted .points) in
-      rw (listed-length (costStep c) (stepCount c), le-leb 1 (c .count - 1) (omega arith), le-leb (c .count - 1) mostSteps (omega arith))
+      rw (listed-length (costStep c) (stepCount c), le-leb 1 (stepCount c) (some-step c (n .0)), le-leb (stepCount c) mostSteps (eleven-suffice c (n .1)))
 
   edged : edgesGood (rawOf (costCurve c)) ≡ true
-  unfolding costCurve inRange
+  unfolding costCurve inRange edgeAt
   edged =
       let n = few c (passed c accepted .points) in
       let first = at-point 0 (omega arith) in

@@ -3,11 +3,10 @@ use mathlib.Core.Bool.{Bool, true, false}
 use mathlib.Core.List.{[], _∷_}
 use mathlib.Core.Logic.{_↔_}
 use mathlib.Core.Path.{_≡_, refl, sym, ap, _∙_}
-use Prim.Native.Nat.{ℕ, zero, suc, _-_, _<_}
-use native.Mathlib.Omega.{arith}
-use lib.IntN.{ℤ, pos, negsuc, negℤ, _*ℤ_}
+use Prim.Native.Nat.{ℕ, zero, suc, _<_}
+use lib.IntN.{ℤ, pos, negℤ, _*ℤ_}
 use lib.Signed.{leZ, _<ℤ_}
-use Rattle.rules_number.specs.Order.{minZ, maxZ, natOf}
+use Rattle.rules_number.specs.Order.{minZ, maxZ}
 use Rattle.rules_number.specs.Ceil.{ceilDiv}
 use Rattle.rules_number.proofs.Kit.{lt-not-le, not-le-lt}
 use Rattle.rules_number.proofs.CeilSize.{ceil-ge, ceil-lt}
@@ -17,7 +16,10 @@ use Rattle.rules_curve.specs.Demands.{_asks_, Between, First}
 use Rattle.rules_number.proofs.ExactLaws.{le-exactly, leZ-exactly, ltZ-exactly, and-exactly, range-exactly, all-exactly, iff-then}
 use Rattle.rules_curve.proofs.FirstLaws.{exactly, accepted-exactly, first-more}
 use Rattle.rules_cost.specs.Conditions.{m, h, w, n, PMax, IsRate, Pointed, Quantified, Heated, Charged, Rated, costDemands}
-use Rattle.rules_cost.specs.Costs.{mostPoints, pointAt, width, unlimited, incrementalRate, rateAt, pointsGood, mwSuits, mwGood, heatInRange, heatGood, chargesInRange, pricesInRange, rateInRange, ratesGood, costRefusal}
+use Rattle.rules_cost.specs.Costs.{mostPoints, stepCount, segmentAt, endAt, edgeAt, pointAt, width, unlimited, incrementalRate, rateAt, pointsGood, mwSuits, mwGood, heatInRange, heatGood, chargesInRange, pricesInRange, rateInRange, ratesGood, costRefusal}
+use Rattle.rules_cost.proofs.RangeLaws.{above-zero}
+use Rattle.rules_cost.proofs.SplitLaws.{segment-among, step-part}
+use Rattle.rules_cost.proofs.EdgeLaws.{stands}
 use Rattle.rules_cost.specs.declared.Costs.{Costs}
 
 module _ (c : Costs) where
@@ -50,7 +52,7 @@ module _ (c : Costs) where
   suiting g zero l = g .within 0 l
   suiting g (suc i) l = (g .within (suc i) l, g .rising i l)
 
-  quantities-exactly : (mwGood c ≡ true) ↔ Quantified c
+  pub quantities-exactly : (mwGood c ≡ true) ↔ Quantified c
   unfolding mwGood
   quantities-exactly = iff-then (all-exactly (mwSuits c) Suits (c .count) suits-exactly) quantified suiting
 
@@ -71,7 +73,7 @@ module _ (c : Costs) where
       (λ g. (g .gas, (g .rate, (g .allowance, (g .om, (g .msc, (g .soc, g .fee)))))))
 
   -- ---- 8, where the quantities rise
-  module _ (good : Quantified c) (i : ℕ) (l : suc i < c .count) where
+  module _ (good : Quantified c) (i : ℕ) (l : suc i < c .count) (to : ℤ) where
     abbrev W : ℕ
     W = width (pointAt c i) (pointAt c (suc i))
 
@@ -81,57 +83,72 @@ module _ (c : Costs) where
 
     w-is : pos W ≡ w c i
     unfolding width
-    w-is = go (w c i) wide
-      where
-        go : (z : ℤ) → 0 < natOf z → pos (natOf z) ≡ z
-        go (pos k) a = refl
-        go (negsuc k) a = absurd (omega arith)
+    w-is = above-zero (w c i) wide
 
     up : ℤ
     up = ceilDiv (n c i) W
 
-    abbrev Limit : Bool
-    Limit = leZ (pos 5 *ℤ m c (suc i)) (pos 4 *ℤ PMax c)
+    -- R of a part of the segment i that ends at `to`
+    abbrev rate : ℤ
+    rate = incrementalRate (PMax c) to (pointAt c i) (pointAt c (suc i))
 
-    on : Limit ≡ true → rateAt c i ≡ minZ up (maxZ (h c i) (h c (suc i)))
-    unfolding rateAt incrementalRate unlimited up
+    abbrev Limit : Bool
+    Limit = leZ (pos 5 *ℤ to) (pos 4 *ℤ PMax c)
+
+    on : Limit ≡ true → rate ≡ minZ up (maxZ (h c i) (h c (suc i)))
+    unfolding incrementalRate unlimited up
     on e = rw e
 
-    off : Limit ≡ false → rateAt c i ≡ up
-    unfolding rateAt incrementalRate unlimited up
+    off : Limit ≡ false → rate ≡ up
+    unfolding incrementalRate unlimited up
     off e = rw e
 
     -- there is one R, and no other
-    pub rate-is : IsRate c i (rateAt c i)
+    pub rate-is : IsRate c i to rate
     unfolding up
     rate-is = record {
       q = up;
       enough = rw (← w-is) (ceil-ge (n c i) W wide);
       no-more = rw (← w-is) (ceil-lt (n c i) W wide);
-      limited = λ a. on (leZ-exactly (pos 5 *ℤ m c (suc i)) (pos 4 *ℤ PMax c) .1 a);
-      unlimited = λ a. off (lt-not-le (pos 4 *ℤ PMax c) (pos 5 *ℤ m c (suc i)) (ltZ-exactly (pos 4 *ℤ PMax c) (pos 5 *ℤ m c (suc i)) .1 a));
+      limited = λ a. on (leZ-exactly (pos 5 *ℤ to) (pos 4 *ℤ PMax c) .1 a);
+      unlimited = λ a. off (lt-not-le (pos 4 *ℤ PMax c) (pos 5 *ℤ to) (ltZ-exactly (pos 4 *ℤ PMax c) (pos 5 *ℤ to) .1 a));
     }
 
-    pub rate-only : (R : ℤ) → IsRate c i R → R ≡ rateAt c i
+    pub rate-only : (R : ℤ) → IsRate c i to R → R ≡ rate
     unfolding up
     rate-only R r = go Limit refl
       where
         same : r .q ≡ up
         same = ceil-unique (n c i) (r .q) W wide (rw w-is (r .enough)) (rw w-is (r .no-more))
 
-        go : (t : Bool) → Limit ≡ t → R ≡ rateAt c i
+        go : (t : Bool) → Limit ≡ t → R ≡ rate
         go true e =
-            r .limited (leZ-exactly (pos 5 *ℤ m c (suc i)) (pos 4 *ℤ PMax c) .0 e) ∙ ap (λ (x : ℤ). minZ x (maxZ (h c i) (h c (suc i)))) same ∙ sym (on e)
+            r .limited (leZ-exactly (pos 5 *ℤ to) (pos 4 *ℤ PMax c) .0 e) ∙ ap (λ (x : ℤ). minZ x (maxZ (h c i) (h c (suc i)))) same ∙ sym (on e)
         go false e =
-            r .unlimited (ltZ-exactly (pos 4 *ℤ PMax c) (pos 5 *ℤ m c (suc i)) .0 (not-le-lt (pos 5 *ℤ m c (suc i)) (pos 4 *ℤ PMax c) e)) ∙ same ∙ sym (off e)
+            r .unlimited (ltZ-exactly (pos 4 *ℤ PMax c) (pos 5 *ℤ to) .0 (not-le-lt (pos 5 *ℤ to) (pos 4 *ℤ PMax c) e)) ∙ same ∙ sym (off e)
 
-  rates-exactly : Quantified c → (ratesGood c ≡ true) ↔ Rated c
-  unfolding ratesGood
-  rates-exactly good =
-      iff-then (all-exactly (λ i. rateInRange (rateAt c i)) (λ i. Between (negℤ (pos 100000)) (pos 100000) (rateAt c i)) (c .count - 1)
-      (λ i. range-exactly (negℤ (pos 100000)) (pos 100000) (rateAt c i)))
-      (λ g i l R r. rw (rate-only good i l R r) (g i (omega arith)))
-      (λ g i l. g i (omega arith) (rateAt c i) (rate-is good i (omega arith)))
+  -- of the steps
+  module _ (good : Quantified c) where
+    rising : mwGood c ≡ true
+    rising = quantities-exactly .1 good
+
+    pub step-rate-is : (t : ℕ) → t < stepCount c → IsRate c (segmentAt c t) (endAt c t) (rateAt c t)
+    unfolding rateAt
+    step-rate-is t l = rate-is good (segmentAt c t) (segment-among c rising t l) (endAt c t)
+
+    pub step-rate-only : (t : ℕ) → t < stepCount c → (R : ℤ) → IsRate c (segmentAt c t) (endAt c t) R → R ≡ rateAt c t
+    unfolding rateAt
+    step-rate-only t l R r = rate-only good (segmentAt c t) (segment-among c rising t l) (endAt c t) R r
+
+    rates-exactly : (ratesGood c ≡ true) ↔ Rated c
+    unfolding ratesGood edgeAt
+    rates-exactly =
+        iff-then (all-exactly (λ t. rateInRange (rateAt c t)) (λ t. Between (negℤ (pos 100000)) (pos 100000) (rateAt c t)) (stepCount c)
+        (λ t. range-exactly (negℤ (pos 100000)) (pos 100000) (rateAt c t)))
+        (λ g i l from to R p r.
+        let s = stands c rising i from to l p in
+        rw (step-rate-only (s .at) (s .among) R (rw (s .segment, s .ends) r)) (g (s .at) (s .among)))
+        (λ g t l. g (segmentAt c t) (segment-among c rising t l) (edgeAt c t) (endAt c t) (rateAt c t) (step-part c rising t l) (step-rate-is t l))
 
   -- ---- the theorems
   pub cost-first : First (costRefusal c) (costDemands c)

@@ -1,11 +1,12 @@
 -- The formula of the default curve from costs (paper 01, Default curve from costs): each line of it, the price of a step, and the curve, which is the
 -- only one that the paper's words allow. For any number of points.
+use mathlib.Core.Bool.{true}
 use mathlib.Core.Logic.{_↔_}
 use mathlib.Core.Path.{_≡_, refl, sym, ap, ap₂, _∙_}
-use Prim.Native.Nat.{ℕ, suc, _≤_, _<_}
+use Prim.Native.Nat.{ℕ, zero, suc, _≤_, _<_}
 use native.Mathlib.Omega.{arith}
 use lib.Dec.{lit<}
-use lib.IntN.{ℤ, pos, negsuc, _+ℤ_, _-ℤ_, _*ℤ_, *ℤ-comm}
+use lib.IntN.{ℤ, pos, _+ℤ_, _-ℤ_, _*ℤ_, *ℤ-comm}
 use lib.Signed.{_≤ℤ_, _<ℤ_}
 use Rattle.rules_number.specs.Order.{minZ, maxZ, natOf}
 use Rattle.rules_number.specs.Ceil.{ceilDiv}
@@ -13,18 +14,21 @@ use Rattle.rules_number.specs.Least.{IsHighest}
 use Rattle.rules_number.proofs.Kit.{var, eq-by, le-of, lt-not-le}
 use Rattle.rules_number.proofs.CeilSize.{ceil-ge, ceil-lt}
 use Rattle.rules_number.proofs.CeilLaws.{ceil-unique}
-use Rattle.rules_number.proofs.RangeLaws.{rises}
+use Rattle.rules_number.proofs.RangeLaws.{nat-is, rises}
 use Rattle.rules_number.proofs.ExactLaws.{leZ-exactly, ltZ-exactly}
 use Rattle.rules_number.proofs.OverLaws.{listed-length}
 use Rattle.rules_number.proofs.CellLaws.{cell-listed}
 use Rattle.rules_curve.specs.Curves.{mostSteps, stepTo, blankStep}
 use Rattle.rules_curve.specs.declared.Step.{Step}
 use Rattle.rules_curve.specs.declared.Curve.{Curve}
-use Rattle.rules_cost.specs.Conditions.{m, Quantified}
-use Rattle.rules_cost.specs.Meaning.{Up, Priced, Raised, step, IsDefaultCurve, Alike}
-use Rattle.rules_cost.specs.Costs.{pointAt, width, unlimited, incrementalRate, fuel, greenhouse, feePart, stepCost, withAdder, rateAt, largestRate, stepPrice, raisedPrice, stepCount, costStep, costCurve, costRefusal}
+use Rattle.rules_cost.specs.Conditions.{Quantified}
+use Rattle.rules_cost.specs.Meaning.{Up, Priced, Raised, step, edgeOf, IsDefaultCurve, Alike}
+use Rattle.rules_cost.specs.Costs.{segmentAt, endAt, edgeAt, widthAt, mwGood, width, unlimited, incrementalRate, fuel, greenhouse, feePart, stepCost, withAdder, rateAt, largestRate, stepPrice, raisedPrice, stepCount, costStep, costCurve, costRefusal}
 use Rattle.rules_cost.proofs.DefaultCurve.{heatRise, largest-so-far, raised-to-largest}
-use Rattle.rules_cost.proofs.Exactly.{rate-is, rate-only, cost-accepted}
+use Rattle.rules_cost.proofs.Exactly.{quantities-exactly, step-rate-is, step-rate-only, cost-accepted}
+use Rattle.rules_cost.proofs.RangeLaws.{above-zero}
+use Rattle.rules_cost.proofs.SplitLaws.{whole-mw, segment-among, step-part}
+use Rattle.rules_cost.proofs.EdgeLaws.{wide-step, width-above, first-edge, last-edge, Alone, steps-only}
 use Rattle.rules_cost.specs.declared.Point.{Point}
 use Rattle.rules_cost.specs.declared.Costs.{Costs}
 
@@ -46,30 +50,26 @@ module _ (p q : Point) (rise : p .mw <ℤ q .mw) where
 
   width-is : pos (width p q) ≡ q .mw -ℤ p .mw
   unfolding width
-  width-is = go (q .mw -ℤ p .mw) wide
-    where
-      go : (z : ℤ) → 0 < natOf z → pos (natOf z) ≡ z
-      go (pos k) a = refl
-      go (negsuc k) a = absurd (omega arith)
+  width-is = above-zero (q .mw -ℤ p .mw) wide
 
--- ---- the 80% limit, of the neighbours p = (m, h) and q = (m', h')
+-- ---- the 80% limit of a step that ends at e, of the neighbours p = (m, h) and q = (m', h')
 -- "R = n / w, up. If 5 × m' <= 4 × PMax, R is at most the larger of h and h'": there R is the smaller of the two, and else it is n / w, up.
-pub record Limit (top : ℤ) (p q : Point) : Type 0 where
+pub record Limit (top e : ℤ) (p q : Point) : Type 0 where
   pub quotient : ℤ
   pub quotient-up : Up (q .heat *ℤ q .mw -ℤ p .heat *ℤ p .mw) (q .mw -ℤ p .mw) quotient
-  pub limited : (pos 5 *ℤ q .mw) ≤ℤ (pos 4 *ℤ top) → incrementalRate top p q ≡ minZ quotient (maxZ (p .heat) (q .heat))
-  pub not-limited : (pos 4 *ℤ top) <ℤ (pos 5 *ℤ q .mw) → incrementalRate top p q ≡ quotient
+  pub limited : (pos 5 *ℤ e) ≤ℤ (pos 4 *ℤ top) → incrementalRate top e p q ≡ minZ quotient (maxZ (p .heat) (q .heat))
+  pub not-limited : (pos 4 *ℤ top) <ℤ (pos 5 *ℤ e) → incrementalRate top e p q ≡ quotient
 
-module _ (top : ℤ) (p q : Point) where
-  pub at-most : (pos 5 *ℤ q .mw) ≤ℤ (pos 4 *ℤ top) → incrementalRate top p q ≡ minZ (unlimited p q) (maxZ (p .heat) (q .heat))
+module _ (top e : ℤ) (p q : Point) where
+  pub at-most : (pos 5 *ℤ e) ≤ℤ (pos 4 *ℤ top) → incrementalRate top e p q ≡ minZ (unlimited p q) (maxZ (p .heat) (q .heat))
   unfolding incrementalRate
-  at-most h = rw (leZ-exactly (pos 5 *ℤ q .mw) (pos 4 *ℤ top) .1 h)
+  at-most h = rw (leZ-exactly (pos 5 *ℤ e) (pos 4 *ℤ top) .1 h)
 
-  pub as-it-is : (pos 4 *ℤ top) <ℤ (pos 5 *ℤ q .mw) → incrementalRate top p q ≡ unlimited p q
+  pub as-it-is : (pos 4 *ℤ top) <ℤ (pos 5 *ℤ e) → incrementalRate top e p q ≡ unlimited p q
   unfolding incrementalRate
-  as-it-is h = rw (lt-not-le (pos 4 *ℤ top) (pos 5 *ℤ q .mw) (ltZ-exactly (pos 4 *ℤ top) (pos 5 *ℤ q .mw) .1 h))
+  as-it-is h = rw (lt-not-le (pos 4 *ℤ top) (pos 5 *ℤ e) (ltZ-exactly (pos 4 *ℤ top) (pos 5 *ℤ e) .1 h))
 
-  pub limit : p .mw <ℤ q .mw → Limit top p q
+  pub limit : p .mw <ℤ q .mw → Limit top e p q
   unfolding unlimited
   limit rise = record {
     quotient = unlimited p q;
@@ -115,71 +115,77 @@ highest-only f g n a b e x y = eq-by (var a) (var b) (omega (arith, le-of up, le
     down : b ≤ℤ a
     down = rw (y .attained, ← e (y .at) (y .among)) (x .at-least-each (y .at) (y .among))
 
--- ---- the price of a step, where the quantities rise (5)
-module _ (c : Costs) (good : Quantified c) (i : ℕ) (l : suc i < c .count) where
+-- ---- the price of a step, where the quantities rise (5), by edges and segments that are those of the steps
+module _ (c : Costs) (good : Quantified c) (t : ℕ) (l : t < stepCount c) (edge : ℕ → ℤ) (segment : ℕ → ℕ)
+    (edges : (j : ℕ) → j ≤ suc t → edge j ≡ edgeAt c j) (segments : (j : ℕ) → j ≤ t → segment j ≡ segmentAt c j) where
   abbrev W : ℕ
-  W = width (pointAt c i) (pointAt c (suc i))
+  W = widthAt c t
 
-  rise : m c i <ℤ m c (suc i)
-  rise = good .rising i l
+  above : 0 < W
+  above = width-above c (quantities-exactly c .1 good) t l
 
-  pub priced : Priced c i (stepPrice c i)
-  unfolding stepPrice
+  own-width : edge (suc t) -ℤ edge t ≡ pos W
+  unfolding widthAt edgeAt
+  own-width = ap₂ (λ (a b : ℤ). a -ℤ b) (edges (suc t) (omega arith)) (edges t (omega arith)) ∙ sym (above-zero (endAt c t -ℤ edgeAt c t) above)
+
+  pub priced : Priced c edge segment t (stepPrice c t)
+  unfolding stepPrice edgeAt
   priced = record {
     R = rateAt c;
-    rates = λ j k. rate-is c good j (omega arith);
-    M = largestRate c i;
-    largest = largest-so-far c i;
-    fuel = fuel c (largestRate c i);
-    fuel-up = fuel-is c (largestRate c i);
-    greenhouse = greenhouse c (rateAt c i);
-    greenhouse-up = greenhouse-is c (rateAt c i);
+    rates = λ j k. rw (segments j k, edges (suc j) (omega arith)) (step-rate-is c good j (omega arith));
+    M = largestRate c t;
+    largest = largest-so-far c t;
+    fuel = fuel c (largestRate c t);
+    fuel-up = fuel-is c (largestRate c t);
+    greenhouse = greenhouse c (rateAt c t);
+    greenhouse-up = greenhouse-is c (rateAt c t);
     fee-part = feePart c W;
-    fee-up = rw (← width-is (pointAt c i) (pointAt c (suc i)) rise) (fee-is c W (wide (pointAt c i) (pointAt c (suc i)) rise));
-    cost = stepCost c (largestRate c i) (rateAt c i) W;
-    cost-is = cost-is c (largestRate c i) (rateAt c i) W;
-    price-up = adder-is c (largestRate c i) (rateAt c i) W;
+    fee-up = rw own-width (fee-is c W above);
+    cost = stepCost c (largestRate c t) (rateAt c t) W;
+    cost-is = cost-is c (largestRate c t) (rateAt c t) W;
+    price-up = adder-is c (largestRate c t) (rateAt c t) W;
   }
 
   -- and no other number is that
-  pub priced-only : (x : ℤ) → Priced c i x → x ≡ stepPrice c i
-  unfolding stepPrice withAdder stepCost fuel greenhouse feePart
+  pub priced-only : (x : ℤ) → Priced c edge segment t x → x ≡ stepPrice c t
+  unfolding stepPrice withAdder stepCost fuel greenhouse feePart edgeAt
   priced-only x p = up-only (pos 11 *ℤ p .cost) x 10 (lit< tt) (p .price-up) ∙ ap (λ (z : ℤ). ceilDiv (pos 11 *ℤ z) 10) cost-same
     where
-      rate-same : (j : ℕ) → j ≤ i → p .R j ≡ rateAt c j
-      rate-same j k = rate-only c good j (omega arith) (p .R j) (p .rates j k)
+      rate-same : (j : ℕ) → j ≤ t → p .R j ≡ rateAt c j
+      rate-same j k = step-rate-only c good j (omega arith) (p .R j) (rw (segments j k, edges (suc j) (omega arith)) at (p .rates j k))
 
-      largest-same : p .M ≡ largestRate c i
-      largest-same = highest-only (p .R) (rateAt c) i (p .M) (largestRate c i) rate-same (p .largest) (largest-so-far c i)
+      largest-same : p .M ≡ largestRate c t
+      largest-same = highest-only (p .R) (rateAt c) t (p .M) (largestRate c t) rate-same (p .largest) (largest-so-far c t)
 
-      fuel-same : p .fuel ≡ fuel c (largestRate c i)
+      fuel-same : p .fuel ≡ fuel c (largestRate c t)
       fuel-same = up-only (p .M *ℤ c .gas) (p .fuel) 1000 (lit< tt) (p .fuel-up) ∙ ap (fuel c) largest-same
 
-      greenhouse-same : p .greenhouse ≡ greenhouse c (rateAt c i)
-      greenhouse-same = up-only (p .R i *ℤ c .rate *ℤ c .allowance) (p .greenhouse) 1000000000 (lit< tt) (p .greenhouse-up) ∙ ap (greenhouse c) (rate-same i (omega arith))
+      greenhouse-same : p .greenhouse ≡ greenhouse c (rateAt c t)
+      greenhouse-same = up-only (p .R t *ℤ c .rate *ℤ c .allowance) (p .greenhouse) 1000000000 (lit< tt) (p .greenhouse-up) ∙ ap (greenhouse c) (rate-same t (omega arith))
 
       fee-same : p .fee-part ≡ feePart c W
-      fee-same =
-          up-only (pos 100 *ℤ c .fee) (p .fee-part) W (wide (pointAt c i) (pointAt c (suc i)) rise)
-          (rw (width-is (pointAt c i) (pointAt c (suc i)) rise) (p .fee-up))
+      fee-same = up-only (pos 100 *ℤ c .fee) (p .fee-part) W above (rw own-width at (p .fee-up))
 
-      cost-same : p .cost ≡ stepCost c (largestRate c i) (rateAt c i) W
+      cost-same : p .cost ≡ stepCost c (largestRate c t) (rateAt c t) W
       cost-same = p .cost-is ∙ rw (fuel-same, greenhouse-same, fee-same)
 
 -- "Last, each step price is raised to the largest before it"
-module _ (c : Costs) (good : Quantified c) (i : ℕ) (l : suc i < c .count) where
-  pub raised : Raised c i (raisedPrice c i)
-  raised = record { prices = stepPrice c; priced = λ j k. priced c good j (omega arith); largest = raised-to-largest c i }
+module _ (c : Costs) (good : Quantified c) (t : ℕ) (l : t < stepCount c) (edge : ℕ → ℤ) (segment : ℕ → ℕ)
+    (edges : (j : ℕ) → j ≤ suc t → edge j ≡ edgeAt c j) (segments : (j : ℕ) → j ≤ t → segment j ≡ segmentAt c j) where
+  pub raised : Raised c edge segment t (raisedPrice c t)
+  raised = record {
+    prices = stepPrice c;
+    priced = λ j k. priced c good j (omega arith) edge segment (λ i h. edges i (omega arith)) (λ i h. segments i (omega arith));
+    largest = raised-to-largest c t;
+  }
 
-  pub raised-only : (x : ℤ) → Raised c i x → x ≡ raisedPrice c i
+  pub raised-only : (x : ℤ) → Raised c edge segment t x → x ≡ raisedPrice c t
   raised-only x p =
-      highest-only (p .prices) (stepPrice c) i x (raisedPrice c i) (λ j k. priced-only c good j (omega arith) (p .prices j) (p .priced j k)) (p .largest) (raised-to-largest c i)
+      highest-only (p .prices) (stepPrice c) t x (raisedPrice c t)
+      (λ j k. priced-only c good j (omega arith) edge segment (λ i h. edges i (omega arith)) (λ i h. segments i (omega arith)) (p .prices j) (p .priced j k))
+      (p .largest) (raised-to-largest c t)
 
 -- ---- the curve
-whole : (z : ℤ) → pos 0 ≤ℤ z → pos (natOf z) ≡ z
-whole (pos n) h = refl
-whole (negsuc n) h = absurd (h .le)
-
 pos-same : {a b : ℕ} → pos a ≡ pos b → a ≡ b
 pos-same e = ap natOf e
 
@@ -187,57 +193,70 @@ step-same : (s t : Step) → s .end ≡ t .end → s .price ≡ t .price → s �
 step-same s t e p = ap₂ stepTo e p
 
 module _ (c : Costs) (good : Quantified c) (some : 0 < c .count) where
-  start-is : costCurve c .start ≡ natOf (m c 0)
-  unfolding costCurve
-  start-is = refl
+  rising : mwGood c ≡ true
+  rising = quantities-exactly c .1 good
 
   count-is : costCurve c .count ≡ stepCount c
   unfolding costCurve
   count-is = listed-length (costStep c) (stepCount c)
 
-  step-is : (i : ℕ) → i < stepCount c → step (costCurve c) i ≡ costStep c i
+  step-is : (t : ℕ) → t < stepCount c → step (costCurve c) t ≡ costStep c t
   unfolding costCurve
-  step-is i l = cell-listed mostSteps blankStep blankStep (costStep c) (stepCount c) i l
+  step-is t l = cell-listed mostSteps blankStep blankStep (costStep c) (stepCount c) t l
 
-  -- "The curve starts at the first m and each later m ends one step"; its prices are the raised ones
+  edge-is : (t : ℕ) → t ≤ stepCount c → edgeOf (costCurve c) t ≡ edgeAt c t
+  unfolding costCurve edgeAt
+  edge-is zero h = sym (whole-mw c rising 0 some .0)
+  edge-is (suc t) h = ap (λ (s : Step). pos (s .end)) (step-is t h) ∙ sym (nat-is 1000000 (endAt c t) (wide-step c rising t h .to-in) .0)
+
+  -- a curve with that many steps, of those edges and prices
+  made : (k : Curve) → k .count ≡ stepCount c → ((t : ℕ) → t ≤ stepCount c → edgeOf k t ≡ edgeAt c t) → ((t : ℕ) → t < stepCount c → step k t .price ≡ raisedPrice c t)
+      → IsDefaultCurve c k
+  made k n edges prices = record {
+    segment = segmentAt c;
+    steps = record {
+      starts = edges 0 (omega arith) ∙ first-edge c;
+      among = λ t l. segment-among c rising t (omega arith);
+      parts = λ t l. rw (edges t (omega arith), edges (suc t) (omega arith)) (step-part c rising t (omega arith));
+      ends = ap (edgeOf k) n ∙ edges (stepCount c) (omega arith) ∙ last-edge c;
+    };
+    prices = λ t l.
+        rw (prices t (omega arith)) (raised c good t (omega arith) (edgeOf k) (segmentAt c) (λ j h. edges j (omega arith)) (λ j h. refl));
+  }
+
+  -- the steps are the segments and the parts of the split one; their prices are the raised ones
   pub curve-is : IsDefaultCurve c (costCurve c)
-  curve-is = record { starts = starts; steps = omega (arith, count-is); ends = ends; prices = prices }
-    where
-      starts : pos (costCurve c .start) ≡ m c 0
-      starts = rw start-is (whole (m c 0) (good .within 0 some .0))
-
-      ends : (i : ℕ) → i < costCurve c .count → pos (step (costCurve c) i .end) ≡ m c (suc i)
-      ends i l =
-          let k : i < stepCount c = omega (arith, count-is) in
-          rw (step-is i k) (whole (m c (suc i)) (good .within (suc i) (omega arith) .0))
-
-      prices : (i : ℕ) → i < costCurve c .count → Raised c i (step (costCurve c) i .price)
-      prices i l =
-          let k : i < stepCount c = omega (arith, count-is) in
-          rw (step-is i k) (raised c good i (omega arith))
+  curve-is = made (costCurve c) count-is edge-is (λ t l. ap (λ (s : Step). s .price) (step-is t l))
 
   -- and no other curve is that
   pub curve-exactly : (k : Curve) → IsDefaultCurve c k ↔ Alike k (costCurve c)
   curve-exactly k = (only, also)
     where
       only : IsDefaultCurve c k → Alike k (costCurve c)
-      only d = record { start = pos-same (d .starts ∙ sym (curve-is .starts)); count = omega (arith, d .steps, curve-is .steps); each = each }
+      only d = record { start = pos-same (same 0 (omega arith)); count = a .count ∙ sym count-is; each = each }
         where
-          each : (i : ℕ) → i < k .count → step k i ≡ step (costCurve c) i
-          each i l =
-              let n : i < costCurve c .count = omega (arith, d .steps, curve-is .steps) in
-              let price = raised-only c good i (omega (arith, d .steps)) in
-              step-same (step k i) (step (costCurve c) i)
-              (pos-same (d .ends i l ∙ sym (curve-is .ends i n)))
-              (price (step k i .price) (d .prices i l) ∙ sym (price (step (costCurve c) i .price) (curve-is .prices i n)))
+          a : Alone c rising (k .count) (edgeOf k) (d .segment)
+          a = steps-only c rising (k .count) (edgeOf k) (d .segment) (d .steps)
+
+          same : (t : ℕ) → t ≤ k .count → edgeOf k t ≡ edgeOf (costCurve c) t
+          same t h = a .edges t h ∙ sym (edge-is t (omega (arith, a .count)))
+
+          each : (t : ℕ) → t < k .count → step k t ≡ step (costCurve c) t
+          each t l =
+              let n : t < stepCount c = omega (arith, a .count) in
+              step-same (step k t) (step (costCurve c) t) (pos-same (same (suc t) l))
+              (raised-only c good t n (edgeOf k) (d .segment) (λ j h. a .edges j (omega arith)) (λ j h. a .segments j (omega arith)) (step k t .price) (d .prices t l)
+              ∙ sym (ap (λ (s : Step). s .price) (step-is t n)))
 
       also : Alike k (costCurve c) → IsDefaultCurve c k
-      also s = record {
-        starts = rw (s .start) (curve-is .starts);
-        steps = rw (s .count) (curve-is .steps);
-        ends = λ i l. rw (s .each i l) (curve-is .ends i (rw (s .count) at l));
-        prices = λ i l. rw (s .each i l) (curve-is .prices i (rw (s .count) at l));
-      }
+      also s = made k n (λ t h. edges t h ∙ edge-is t h) (λ t l. ap (λ (x : Step). x .price) (s .each t (omega (arith, n)) ∙ step-is t l))
+        where
+          n : k .count ≡ stepCount c
+          n = s .count ∙ count-is
+
+          edges : (t : ℕ) → t ≤ stepCount c → edgeOf k t ≡ edgeOf (costCurve c) t
+          edges zero h = ap pos (s .start)
+          edges (suc t) h = ap (λ (x : Step). pos (x .end)) (s .each t (omega (arith, n)))
 
 -- of accepted costs
 pub accepted-curve : (c : Costs) → costRefusal c ≡ 0 → (k : Curve) → IsDefaultCurve c k ↔ Alike k (costCurve c)

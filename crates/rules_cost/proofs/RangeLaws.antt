@@ -2,11 +2,12 @@
 use mathlib.Core.Bool.{Bool, true, false, _&&_}
 use mathlib.Core.Path.{_≡_, refl, sym, _∙_}
 use Prim.Native.Nat.{ℕ, zero, suc, _≤_, _<_}
+use native.Mathlib.Omega.{arith}
 use borrow.Author.Tests.{leb-true}
 use lib.Dec.{leb, lit≤}
 use lib.IntN.{ℤ, pos, negsuc, negℤ}
 use lib.Signed.{ltZ, _≤ℤ_}
-use Rattle.rules_number.specs.Order.{inRange}
+use Rattle.rules_number.specs.Order.{inRange, natOf}
 use Rattle.rules_number.proofs.Kit.{Bd, bd-between, in-lo, in-hi}
 use Rattle.rules_number.proofs.OverLaws.{both, all-at}
 use Rattle.rules_number.proofs.RangeLaws.{bd-in, rises}
@@ -65,6 +66,11 @@ module _ (c : Costs) (quantities : mwGood c ≡ true) where
   pub has-width : (i : ℕ) → suc i < c .count → 0 < width (pointAt c i) (pointAt c (suc i))
   unfolding width
   has-width i l = rises (mwAt c i) (mwAt c (suc i)) (mw-rises i l)
+
+-- a number whose whole is above 0 is that whole
+pub above-zero : (z : ℤ) → 0 < natOf z → pos (natOf z) ≡ z
+above-zero (pos k) a = refl
+above-zero (negsuc k) a = absurd (omega arith)
 
 -- ---- 6: the heat rates
 pub heat-in : (c : Costs) → heatGood c ≡ true → (i : ℕ) → i < c .count → heatInRange (heatAt c i) ≡ true

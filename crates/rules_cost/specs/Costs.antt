@@ -1,8 +1,8 @@
--- The default curve from costs (paper 01, Default curve from costs; 39.7.1.1.1.1).
--- Step i lies between point i, (m, h), and point i + 1, (m', h').
+-- The default curve from costs (paper 01, Default curve from costs; 39.7.1.1.1.1; paper 02, Segments across the 80% mark).
+-- Segment i lies between point i, (m, h), and point i + 1, (m', h'). A step is a segment, or a part of one that is split.
 use mathlib.Core.Bool.{Bool, _&&_, cond}
-use Prim.Native.Nat.{ℕ, zero, suc, _-_}
-use lib.Dec.{leb}
+use Prim.Native.Nat.{ℕ, zero, suc, _-_, _*_, _/_}
+use lib.Dec.{leb, ltb, eqb}
 use lib.IntN.{ℤ, pos, negℤ, _+ℤ_, _-ℤ_, _*ℤ_}
 use lib.ListN.{getD}
 use lib.Signed.{leZ, ltZ}
@@ -33,13 +33,52 @@ mwAt c i = pointAt c i .mw
 abbrev pub heatAt : Costs → ℕ → ℤ
 heatAt c i = pointAt c i .heat
 
--- the curve has one step fewer than points
-abbrev pub stepCount : Costs → ℕ
-stepCount c = c .count - 1
+-- there is one segment fewer than points
+abbrev pub segmentCount : Costs → ℕ
+segmentCount c = c .count - 1
 
 -- PMax, the last m
 abbrev pub pmax : Costs → ℤ
-pmax c = mwAt c (stepCount c)
+pmax c = mwAt c (segmentCount c)
+
+-- ---- the split: "splits a segment at k, which is 4 × PMax / 5 rounded down, where k lies strictly inside it"
+unfoldable pub mark : Costs → ℤ
+mark c = pos (4 * natOf (pmax c) / 5)
+
+abbrev pub isSplit : Costs → ℕ → Bool
+isSplit c i = ltZ (mwAt c i) (mark c) && ltZ (mark c) (mwAt c (suc i))
+
+-- the first of 0, .., n - 1 of which f holds, and n where it holds of none
+unfoldable pub firstTo : (ℕ → Bool) → ℕ → ℕ
+firstTo f zero = 0
+firstTo f (suc n) =
+    let r = firstTo f n in
+    cond (ltb r n) r (cond (f n) n (suc n))
+
+-- the number of the segment that is split, and that of all segments where none is
+unfoldable pub splitAt : Costs → ℕ
+splitAt c = firstTo (isSplit c) (segmentCount c)
+
+-- each segment is a step, and the split one is two
+unfoldable pub stepCount : Costs → ℕ
+stepCount c = cond (ltb (splitAt c) (segmentCount c)) (suc (segmentCount c)) (segmentCount c)
+
+-- the segment of step t
+unfoldable pub segmentAt : Costs → ℕ → ℕ
+segmentAt c t = cond (leb t (splitAt c)) t (t - 1)
+
+-- where step t ends: the lower part at k, any other step at m' of its segment
+unfoldable pub endAt : Costs → ℕ → ℤ
+endAt c t = cond (eqb t (splitAt c)) (mark c) (mwAt c (suc (segmentAt c t)))
+
+-- where step t begins: at the first m, or where the step before it ends
+unfoldable pub edgeAt : Costs → ℕ → ℤ
+edgeAt c zero = mwAt c 0
+edgeAt c (suc t) = endAt c t
+
+-- "each part's own width"
+unfoldable pub widthAt : Costs → ℕ → ℕ
+widthAt c t = natOf (endAt c t -ℤ edgeAt c t)
 
 -- ---- between the neighbours p = (m, h) and q = (m', h')
 -- w = m' - m
@@ -50,13 +89,13 @@ width p q = natOf (q .mw -ℤ p .mw)
 unfoldable pub unlimited : Point → Point → ℤ
 unlimited p q = ceilDiv (q .heat *ℤ q .mw -ℤ p .heat *ℤ p .mw) (width p q)
 
--- the 80% limit: 5 × m' <= 4 × PMax
+-- the 80% limit of a step that ends at e: 5 × e <= 4 × PMax. So "the lower part is limited, the upper isn't"
 abbrev pub isLimited : ℤ → ℤ → Bool
-isLimited top m' = leZ (pos 5 *ℤ m') (pos 4 *ℤ top)
+isLimited top e = leZ (pos 5 *ℤ e) (pos 4 *ℤ top)
 
--- R: where the limit holds, at most the larger of h and h'
-unfoldable pub incrementalRate : ℤ → Point → Point → ℤ
-incrementalRate top p q = cond (isLimited top (q .mw)) (minZ (unlimited p q) (maxZ (p .heat) (q .heat))) (unlimited p q)
+-- R of a step that ends at e: where the limit holds, at most the larger of h and h'. "Both parts take n and w of the whole segment for R"
+unfoldable pub incrementalRate : ℤ → ℤ → Point → Point → ℤ
+incrementalRate top e p q = cond (isLimited top e) (minZ (unlimited p q) (maxZ (p .heat) (q .heat))) (unlimited p q)
 
 -- ---- the price of a step with largest rate so far M, rate R and width w
 unfoldable pub fuel : Costs → ℤ → ℤ
@@ -77,22 +116,23 @@ withAdder c M R w = ceilDiv (pos 11 *ℤ stepCost c M R w) 10
 
 -- ---- step by step
 unfoldable pub rateAt : Costs → ℕ → ℤ
-rateAt c i = incrementalRate (pmax c) (pointAt c i) (pointAt c (suc i))
+rateAt c t = incrementalRate (pmax c) (endAt c t) (pointAt c (segmentAt c t)) (pointAt c (suc (segmentAt c t)))
 
 -- M: the largest R so far, from the left
 unfoldable pub largestRate : Costs → ℕ → ℤ
-largestRate c i = highestTo (rateAt c) i
+largestRate c t = highestTo (rateAt c) t
 
+-- "The fee is spread over each part's own width"
 unfoldable pub stepPrice : Costs → ℕ → ℤ
-stepPrice c i = withAdder c (largestRate c i) (rateAt c i) (width (pointAt c i) (pointAt c (suc i)))
+stepPrice c t = withAdder c (largestRate c t) (rateAt c t) (widthAt c t)
 
 -- last, each step price is raised to the largest before it
 unfoldable pub raisedPrice : Costs → ℕ → ℤ
-raisedPrice c i = highestTo (stepPrice c) i
+raisedPrice c t = highestTo (stepPrice c) t
 
--- the steps of the default curve, and the curve: it starts at the first m and each later m ends one step
+-- the steps of the default curve, and the curve: it starts at the first m
 abbrev pub costStep : Costs → ℕ → Step
-costStep c i = stepTo (natOf (mwAt c (suc i))) (raisedPrice c i)
+costStep c t = stepTo (natOf (endAt c t)) (raisedPrice c t)
 
 unfoldable pub costCurve : Costs → Curve
 costCurve c = curveWith (natOf (mwAt c 0)) (listed (costStep c) (stepCount c))
@@ -136,7 +176,7 @@ abbrev pub rateInRange : ℤ → Bool
 rateInRange R = inRange (negℤ (pos 100000)) (pos 100000) R
 
 unfoldable pub ratesGood : Costs → Bool
-ratesGood c = allTo (λ i. rateInRange (rateAt c i)) (stepCount c)
+ratesGood c = allTo (λ t. rateInRange (rateAt c t)) (stepCount c)
 
 -- the lowest number that applies
 unfoldable pub costRefusal : Costs → ℕ

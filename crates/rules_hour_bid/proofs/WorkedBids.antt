@@ -7,10 +7,9 @@ use Rattle.rules_number.specs.Order.{inRange}
 use Rattle.rules_number.specs.Over.{sumTo, allTo, highestTo, listed, those, sumOver, padded, upTo}
 use Rattle.rules_curve.specs.Refusals.{eachTo}
 use Rattle.rules_curve.specs.Curves.{stepTo, priceAt, chain, curveRefusal, curveOf}
-use Rattle.rules_cost.specs.Costs.{width, unlimited, incrementalRate, fuel, greenhouse, feePart, stepCost, withAdder, rateAt, largestRate, stepPrice, raisedPrice, costCurve, mwSuits, mwGood, heatGood, chargesInRange, pricesInRange, ratesGood, costRefusal}
+use Rattle.rules_cost.specs.Costs.{mark, firstTo, splitAt, stepCount, segmentAt, endAt, edgeAt, widthAt, width, unlimited, incrementalRate, fuel, greenhouse, feePart, stepCost, withAdder, rateAt, largestRate, stepPrice, raisedPrice, costCurve, mwSuits, mwGood, heatGood, chargesInRange, pricesInRange, ratesGood, costRefusal}
 use Rattle.rules_mitigation.specs.Mitigation.{segmentsN, joined, joinedAfter, mitigated, usedSteps}
 use Rattle.rules_interval.specs.Intervals.{allWithin, factorsGood, outputsGood, intervalRefusal}
-use Rattle.rules_interval.specs.declared.Interval.{Interval}
 use Rattle.rules_path.specs.Paths.{demand, supply, share, withholdable, offer, offers, largest, top, total, sellers, left, isNonCompetitive}
 use Rattle.rules_opening.specs.Openings.{noCosts, noResource, sellersGood, ownersGood, openingRefusal, marketOf}
 use Rattle.rules_opening.specs.Resources.{liesInside, resourceRefusal, rowOf}
@@ -18,11 +17,10 @@ use Rattle.rules_opening.proofs.CaseT.{openingT, intervalAt, cells}
 use Rattle.rules_hour.specs.Cuts.{entering, component, cutBy, cutOf}
 use Rattle.rules_hour.specs.Hours.{freshStanding, curveIn, nextStanding, callRefusal, standingAfter, hourAfter}
 use Rattle.rules_hour.specs.Opened.{freshHour, openedHour}
-use Rattle.rules_pass.specs.Passes.{RealTimeHour, freshQuarter, turnRefusal, nextQuarter, quarterAfter, openedRealTime, intervalAfter, passAfter, fiveMinuteIn}
-use Rattle.rules_pass.specs.Calls.{Request, interval, pass, afterAll, hourOf, answersFrom, answers}
+use Rattle.rules_pass.specs.Passes.{freshQuarter, turnRefusal, nextQuarter, quarterAfter, openedRealTime, intervalAfter, passAfter}
+use Rattle.rules_pass.specs.Calls.{Request, interval, pass, afterAll, hourOf}
 use Rattle.rules_curve.specs.declared.Step.{Step}
 use Rattle.rules_curve.specs.declared.RawStep.{RawStep}
-use Rattle.rules_curve.specs.declared.RawCurve.{RawCurve}
 use Rattle.rules_opening.specs.declared.Opening.{Opening}
 use Rattle.rules_opening.specs.declared.Source.the-variants as source
 use Rattle.rules_hour_bid.specs.HourBids.{hourBidRefusal, hourBidIn, hourBidOf}
@@ -84,7 +82,7 @@ by-turns = record {
 
 pub record Worked : Type 0 where
   -- 500000, 400100, 400100, 400100 at quantity 15000: the lowest, and from 20000 on the default price, which is above L
-  pub lowest : bidAfter four ≡ stepTo 15000 (pos 300000) ∷ stepTo 20000 (pos 400100) ∷ stepTo 30000 (pos 488402) ∷ []
+  pub lowest : bidAfter four ≡ stepTo 15000 (pos 300000) ∷ stepTo 20000 (pos 400100) ∷ stepTo 24000 (pos 444403) ∷ stepTo 30000 (pos 488402) ∷ []
   pub told : number four ≡ 0
   -- three accepted, and three with a fourth that is refused: 20, and no curve
   pub early : number three ≡ 20
@@ -101,7 +99,7 @@ pub record Worked : Type 0 where
 
 pub worked : Worked
 unfolding inRange sumTo allTo highestTo listed those sumOver padded upTo eachTo priceAt chain curveRefusal curveOf segmentsN joined joinedAfter mitigated
-    width unlimited incrementalRate fuel greenhouse feePart stepCost withAdder rateAt largestRate stepPrice raisedPrice costCurve
+    mark firstTo splitAt stepCount segmentAt endAt edgeAt widthAt width unlimited incrementalRate fuel greenhouse feePart stepCost withAdder rateAt largestRate stepPrice raisedPrice costCurve
     mwSuits mwGood heatGood chargesInRange pricesInRange ratesGood costRefusal
     allWithin factorsGood outputsGood intervalRefusal
     demand supply share withholdable offer offers largest top total sellers left isNonCompetitive

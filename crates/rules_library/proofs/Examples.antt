@@ -7,7 +7,7 @@ use lib.ListN.{replicate}
 use Rattle.rules_number.specs.Order.{inRange}
 use Rattle.rules_number.specs.Over.{allTo, highestTo, listed, padded}
 use Rattle.rules_curve.specs.Curves.{chain, curveRefusal, bidRefusal}
-use Rattle.rules_cost.specs.Costs.{width, unlimited, incrementalRate, fuel, greenhouse, feePart, stepCost, withAdder, rateAt, largestRate, stepPrice, raisedPrice, costCurve, mwSuits, mwGood, heatGood, chargesInRange, pricesInRange, ratesGood, costRefusal}
+use Rattle.rules_cost.specs.Costs.{mark, firstTo, splitAt, stepCount, segmentAt, endAt, edgeAt, widthAt, width, unlimited, incrementalRate, fuel, greenhouse, feePart, stepCost, withAdder, rateAt, largestRate, stepPrice, raisedPrice, costCurve, mwSuits, mwGood, heatGood, chargesInRange, pricesInRange, ratesGood, costRefusal}
 use Rattle.rules_cost.specs.declared.Costs.{Costs}
 use Rattle.rules_library.specs.Slices.{rawBid, costsIn, defaultAnswer, edgesAfter, pricesAfter}
 
@@ -38,8 +38,8 @@ pub record Worked : Type 0 where
   pub p10-taken : bidRefusal 13 (rawBid (pos 0) 1 over) ≡ 0
   -- T's default curve, in slices that have one number more than they need
   pub answer-t : defaultAnswer (edges 14) (prices 12) costsT ≡ pos 0
-  pub edges-t : edgesAfter (edges 14) (prices 12) costsT ≡ 2 ∷ 10000 ∷ 20000 ∷ 30000 ∷ 0 ∷ 0 ∷ 0 ∷ 0 ∷ 0 ∷ 0 ∷ 0 ∷ 0 ∷ 0 ∷ 7 ∷ []
-  pub prices-t : pricesAfter (edges 14) (prices 12) costsT ≡ pos 378402 ∷ pos 488402 ∷ replicate 9 (pos 0) ++ (pos 7 ∷ [])
+  pub edges-t : edgesAfter (edges 14) (prices 12) costsT ≡ 3 ∷ 10000 ∷ 20000 ∷ 24000 ∷ 30000 ∷ 0 ∷ 0 ∷ 0 ∷ 0 ∷ 0 ∷ 0 ∷ 0 ∷ 0 ∷ 7 ∷ []
+  pub prices-t : pricesAfter (edges 14) (prices 12) costsT ≡ pos 378402 ∷ pos 444403 ∷ pos 488402 ∷ replicate 8 (pos 0) ++ (pos 7 ∷ [])
   -- 12 edges, or 10 prices, are too few
   pub few-edges : defaultAnswer (edges 12) (prices 11) costsT ≡ negsuc 0
   pub few-prices : defaultAnswer (edges 13) (prices 10) costsT ≡ negsuc 0
@@ -50,7 +50,7 @@ pub record Worked : Type 0 where
   pub refused-prices : pricesAfter (edges 13) (prices 11) (costsIn 0 [] []) ≡ prices 11
 
 pub worked : Worked
-unfolding inRange allTo highestTo listed padded chain curveRefusal width unlimited incrementalRate fuel greenhouse feePart stepCost withAdder rateAt largestRate stepPrice raisedPrice costCurve mwSuits mwGood heatGood chargesInRange pricesInRange ratesGood costRefusal costsIn defaultAnswer edgesAfter pricesAfter
+unfolding inRange allTo highestTo listed padded chain curveRefusal mark firstTo splitAt stepCount segmentAt endAt edgeAt widthAt width unlimited incrementalRate fuel greenhouse feePart stepCost withAdder rateAt largestRate stepPrice raisedPrice costCurve mwSuits mwGood heatGood chargesInRange pricesInRange ratesGood costRefusal costsIn defaultAnswer edgesAfter pricesAfter
 worked = record {
   bid-t = refl;
   bid-past = refl;

@@ -16,6 +16,7 @@ use Rattle.rules_curve.proofs.CheckLaws.{then-both, unless-holds}
 use Rattle.rules_cost.specs.Costs.{mostPoints, stepCount, costStep, costCurve, pointsGood, costRefusal}
 use Rattle.rules_cost.specs.declared.Costs.{Costs}
 use Rattle.rules_run.specs.Run.{Ended, runRoom, ranWithin, ranTo}
+use Rattle.rules_cost.proofs.EdgeLaws.{eleven-suffice}
 use Rattle.rules_library.specs.Answers.{ranNumber, toldRoom, toldAnswer, toldPage, toldAfter}
 use Rattle.rules_library.specs.Slices.{edgeCount, priceCount, edgesOf, pricesOf, hasRoom, defaultAnswer, ifWritten, edgesAfter, pricesAfter}
 
@@ -24,7 +25,7 @@ module _ (c : Costs) (z : costRefusal c ≡ 0) where
   unfolding costRefusal
   few-steps =
       let p = unless-holds (pointsGood c) 3 (then-both _ _ (then-both _ _ (then-both _ _ (then-both _ _ z .0) .0) .0) .0) in
-      omega (arith, leb-true (c .count) mostPoints (both (leb 2 (c .count)) (leb (c .count) mostPoints) p .1))
+      eleven-suffice c (leb-true (c .count) mostPoints (both (leb 2 (c .count)) (leb (c .count) mostPoints) p .1))
 
   all-steps : length (costCurve c .steps) ≡ mostSteps
   unfolding costCurve

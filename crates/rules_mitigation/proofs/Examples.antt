@@ -14,7 +14,7 @@ abbrev bidT : Curve
 bidT = curveWith 10000 (stepTo 15000 (pos 300000) ∷ stepTo 30000 (pos 900000) ∷ [])
 
 abbrev defaultT : Curve
-defaultT = curveWith 10000 (stepTo 20000 (pos 378402) ∷ stepTo 30000 (pos 488402) ∷ [])
+defaultT = curveWith 10000 (stepTo 20000 (pos 378402) ∷ stepTo 24000 (pos 444403) ∷ stepTo 30000 (pos 488402) ∷ [])
 
 -- a bid of one price in two steps
 abbrev level : Curve
@@ -29,7 +29,7 @@ eleven = curveWith 0 (listed (λ i. stepTo (10 * i + 5) (pos (20 * i))) 10 ++ (s
 
 pub record Mitigations : Type 0 where
   -- Case T's curve, L = 350100
-  pub curve-T : usedSteps (mitigated (Cut (pos 350100)) bidT defaultT) ≡ stepTo 15000 (pos 300000) ∷ stepTo 20000 (pos 378402) ∷ stepTo 30000 (pos 488402) ∷ []
+  pub curve-T : usedSteps (mitigated (Cut (pos 350100)) bidT defaultT) ≡ stepTo 15000 (pos 300000) ∷ stepTo 20000 (pos 378402) ∷ stepTo 24000 (pos 444403) ∷ stepTo 30000 (pos 488402) ∷ []
   -- P8: bid 300000, default 378402, L 350100: stays 300000
   pub p8 : capped (Cut (pos 350100)) (pos 300000) (pos 378402) ≡ pos 300000
   -- P9: bid 900000, default 378402, L 500000 then 350100: 500000, then 378402

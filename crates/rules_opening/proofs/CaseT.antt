@@ -66,11 +66,25 @@ intervalAt lmp = record {
 abbrev pub intervalT : Interval
 intervalT = intervalAt 600000
 
--- ---- P3: two points with n = h' × m' - h × m = 12 - h × 1 and w = 4 - 1
-abbrev pub costs3 : ℕ → Costs
-costs3 h = record {
+-- ---- P3: two points with n = h' × m' - h × m = h' × 5 - h × 2 and w = 5 - 2
+abbrev pub costs3 : ℕ → ℕ → Costs
+costs3 h h' = record {
   count = 2;
-  points = padded mostPoints blankPoint (point 1 h ∷ point 4 3 ∷ []);
+  points = padded mostPoints blankPoint (point 2 h ∷ point 5 h' ∷ []);
+  gas = pos 0;
+  rate = pos 0;
+  allowance = pos 0;
+  om = pos 0;
+  msc = pos 0;
+  soc = pos 0;
+  fee = pos 0;
+}
+
+-- P4's points, with the middle one at m
+abbrev pub costs4 : ℕ → Costs
+costs4 m = record {
+  count = 3;
+  points = padded mostPoints blankPoint (point 20000 9000 ∷ point m 9500 ∷ point 30000 9400 ∷ []);
   gas = pos 0;
   rate = pos 0;
   allowance = pos 0;

@@ -23,9 +23,10 @@ use Rattle.rules_number.proofs.ExactLaws.{leZ-exactly, and-exactly, iff-then}
 use Rattle.rules_curve.proofs.FirstLaws.{exactly, accepted-exactly, first-then, first-more}
 use Rattle.rules_curve.proofs.Exactly.{bid-first, default-first}
 use Rattle.rules_cost.specs.Conditions.{m}
-use Rattle.rules_cost.specs.Costs.{mwAt, stepCount, costStep, costCurve}
+use Rattle.rules_cost.specs.Costs.{edgeAt, mwAt, stepCount, costStep, costCurve}
 use Rattle.rules_cost.specs.declared.Costs.{Costs}
 use Rattle.rules_cost.proofs.Exactly.{cost-first}
+use Rattle.rules_cost.proofs.EdgeLaws.{some-step, last-edge}
 use Rattle.rules_opening.specs.ResourceConditions.{sourceDemands, defaultStart, defaultEnd, Inside, resourceDemands, Full}
 use Rattle.rules_opening.specs.Resources.{defaultBy, liesInside, resourceRefusal, sourceRefusal}
 use Rattle.rules_opening.specs.declared.Source.{Source}
@@ -67,10 +68,10 @@ raw-end c h =
 
 -- ---- where a curve from costs ends
 cost-end : (c : Costs) → 2 ≤ c .count → endOf (costCurve c .start) (stepsOf (costCurve c)) ≡ natOf (m c (c .count - 1))
-unfolding costCurve
-cost-end c h = rw (with-used (natOf (mwAt c 0)) (listed (costStep c) (stepCount c))) (go (c .count - 1) (omega arith))
+unfolding costCurve edgeAt
+cost-end c h = rw (with-used (natOf (mwAt c 0)) (listed (costStep c) (stepCount c))) (go (stepCount c) (some-step c h) ∙ ap natOf (last-edge c))
   where
-    go : (n : ℕ) → 0 < n → endOf (natOf (mwAt c 0)) (listed (costStep c) n) ≡ natOf (m c n)
+    go : (n : ℕ) → 0 < n → endOf (natOf (mwAt c 0)) (listed (costStep c) n) ≡ natOf (edgeAt c n)
     go zero h = absurd (omega arith)
     go (suc n) h =
         end-last (natOf (mwAt c 0)) n (listed (costStep c) (suc n)) (listed-length (costStep c) (suc n))

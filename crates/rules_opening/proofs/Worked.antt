@@ -7,7 +7,7 @@ use Rattle.rules_number.specs.Over.{allTo, highestTo, listed, padded}
 use Rattle.rules_curve.specs.Refusals.{eachTo}
 use Rattle.rules_curve.specs.Curves.{mostSteps, stepTo, stepsOf, chain, curveRefusal, curveOf}
 use Rattle.rules_curve.specs.declared.RawCurve.{RawCurve}
-use Rattle.rules_cost.specs.Costs.{mostPoints, blankPoint, width, unlimited, incrementalRate, fuel, greenhouse, feePart, stepCost, withAdder, rateAt, largestRate, stepPrice, raisedPrice, costCurve, mwSuits, mwGood, heatGood, chargesInRange, pricesInRange, ratesGood, costRefusal}
+use Rattle.rules_cost.specs.Costs.{mark, firstTo, splitAt, stepCount, segmentAt, endAt, edgeAt, widthAt, mostPoints, blankPoint, width, unlimited, incrementalRate, fuel, greenhouse, feePart, stepCost, withAdder, rateAt, largestRate, stepPrice, raisedPrice, costCurve, mwSuits, mwGood, heatGood, chargesInRange, pricesInRange, ratesGood, costRefusal}
 use Rattle.rules_cost.specs.declared.Costs.{Costs}
 use Rattle.rules_opening.specs.Resources.{liesInside, resourceRefusal, rowOf}
 use Rattle.rules_opening.specs.Openings.{noRaw, noCosts, noResource, resourceAt, sellersGood, ownersGood, openingRefusal}
@@ -61,7 +61,7 @@ pub record FromCosts : Type 0 where
 
 pub from-costs-worked : FromCosts
 unfolding inRange allTo highestTo listed padded eachTo chain curveRefusal curveOf
-    width unlimited incrementalRate fuel greenhouse feePart stepCost withAdder rateAt largestRate stepPrice raisedPrice costCurve
+    mark firstTo splitAt stepCount segmentAt endAt edgeAt widthAt width unlimited incrementalRate fuel greenhouse feePart stepCost withAdder rateAt largestRate stepPrice raisedPrice costCurve
     mwSuits mwGood heatGood chargesInRange pricesInRange ratesGood costRefusal
     sellersGood ownersGood liesInside resourceRefusal openingRefusal rowOf
 from-costs-worked = record { taken = refl; starts = refl; prices = refl }

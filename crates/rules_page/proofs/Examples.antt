@@ -9,7 +9,7 @@ use Rattle.rules_number.specs.Over.{sumTo, allTo, highestTo, listed, those, sum
 use Rattle.rules_curve.specs.Refusals.{eachTo}
 use Rattle.rules_curve.specs.Curves.{priceAt, chain, curveRefusal, curveOf, stepTo}
 use Rattle.rules_mitigation.specs.Mitigation.{segmentsN, joined, joinedAfter, mitigated}
-use Rattle.rules_cost.specs.Costs.{width, unlimited, incrementalRate, fuel, greenhouse, feePart, stepCost, withAdder, rateAt, largestRate, stepPrice, raisedPrice, costCurve, mwSuits, mwGood, heatGood, chargesInRange, pricesInRange, ratesGood, costRefusal}
+use Rattle.rules_cost.specs.Costs.{mark, firstTo, splitAt, stepCount, segmentAt, endAt, edgeAt, widthAt, width, unlimited, incrementalRate, fuel, greenhouse, feePart, stepCost, withAdder, rateAt, largestRate, stepPrice, raisedPrice, costCurve, mwSuits, mwGood, heatGood, chargesInRange, pricesInRange, ratesGood, costRefusal}
 use Rattle.rules_interval.specs.Intervals.{allWithin, factorsGood, outputsGood, intervalRefusal}
 use Rattle.rules_path.specs.Paths.{demand, supply, share, withholdable, offer, offers, largest, top, total, mask, amountOf, sellers, named, left, isNonCompetitive}
 use Rattle.rules_path.specs.Verdicts.{verdictOf, notBinding, isNamed}
@@ -40,7 +40,7 @@ verdictsT = padded 32 notBinding (record { finding = NonCompetitive; demand = 10
 
 verdicts-are : hourVerdicts (openedHour openingT) intervalT ≡ verdictsT
 unfolding inRange sumTo allTo highestTo listed those sumOver padded upTo eachTo priceAt chain curveRefusal curveOf segmentsN joined joinedAfter mitigated
-    width unlimited incrementalRate fuel greenhouse feePart stepCost withAdder rateAt largestRate stepPrice raisedPrice costCurve
+    mark firstTo splitAt stepCount segmentAt endAt edgeAt widthAt width unlimited incrementalRate fuel greenhouse feePart stepCost withAdder rateAt largestRate stepPrice raisedPrice costCurve
     mwSuits mwGood heatGood chargesInRange pricesInRange ratesGood costRefusal
     allWithin factorsGood outputsGood intervalRefusal
     demand supply share withholdable offer offers largest top total mask amountOf sellers named left isNonCompetitive verdictOf verdictsOf
@@ -48,9 +48,9 @@ unfolding inRange sumTo allTo highestTo listed those sumOver padded upTo eachTo 
     sellersGood ownersGood liesInside resourceRefusal openingRefusal rowOf marketOf freshHour openedHour
 verdicts-are = refl
 
-curves-are : map (curveRows (hourT .rows) (hourT .standing .floors)) (listed (λ r. r) (min (hourT .market .resources) 64)) ≡ map stepRow (stepTo 15000 (pos 300000) ∷ stepTo 20000 (pos 378402) ∷ stepTo 30000 (pos 488402) ∷ []) ∷ []
+curves-are : map (curveRows (hourT .rows) (hourT .standing .floors)) (listed (λ r. r) (min (hourT .market .resources) 64)) ≡ map stepRow (stepTo 15000 (pos 300000) ∷ stepTo 20000 (pos 378402) ∷ stepTo 24000 (pos 444403) ∷ stepTo 30000 (pos 488402) ∷ []) ∷ []
 unfolding inRange sumTo allTo highestTo listed those sumOver padded upTo eachTo priceAt chain curveRefusal curveOf segmentsN joined joinedAfter mitigated
-    width unlimited incrementalRate fuel greenhouse feePart stepCost withAdder rateAt largestRate stepPrice raisedPrice costCurve
+    mark firstTo splitAt stepCount segmentAt endAt edgeAt widthAt width unlimited incrementalRate fuel greenhouse feePart stepCost withAdder rateAt largestRate stepPrice raisedPrice costCurve
     mwSuits mwGood heatGood chargesInRange pricesInRange ratesGood costRefusal
     allWithin factorsGood outputsGood intervalRefusal
     demand supply share withholdable offer offers largest top total mask amountOf sellers named left isNonCompetitive verdictOf verdictsOf
@@ -62,14 +62,14 @@ curves-are = refl
 abbrev pageOf : List Verdict → List (List Row) → List ℕ
 pageOf verdicts curves = (verdictNames ++ (verdictTable 1 1 verdicts ++ (sellerNames ++ sellerTable 1 1 verdicts))) ++ (curveNames ++ tableText 1 0 curves)
 
-printed : pageOf verdictsT (map stepRow (stepTo 15000 (pos 300000) ∷ stepTo 20000 (pos 378402) ∷ stepTo 30000 (pos 488402) ∷ []) ∷ [])
-    ≡ bytes "interval constraint verdict demand left\n1 0 1 10000000000 0\ninterval constraint portfolio withheld\n1 0 0 15000000000\ninterval resource end price\n1 0 15000 300000\n1 0 20000 378402\n1 0 30000 488402\n"
+printed : pageOf verdictsT (map stepRow (stepTo 15000 (pos 300000) ∷ stepTo 20000 (pos 378402) ∷ stepTo 24000 (pos 444403) ∷ stepTo 30000 (pos 488402) ∷ []) ∷ [])
+    ≡ bytes "interval constraint verdict demand left\n1 0 1 10000000000 0\ninterval constraint portfolio withheld\n1 0 0 15000000000\ninterval resource end price\n1 0 15000 300000\n1 0 20000 378402\n1 0 24000 444403\n1 0 30000 488402\n"
 unfolding padded isNamed digits decimal lineText groupText tableText shown leads byWeight sellersNamed verdictTable sellerTable
 printed = refl
 
 -- "It prints, whole"
 pub case-T : pageText 1 (hourT .market .resources) (hourT .rows) (hourT .standing .floors) 1 (hourVerdicts (openedHour openingT) intervalT)
-    ≡ bytes "interval constraint verdict demand left\n1 0 1 10000000000 0\ninterval constraint portfolio withheld\n1 0 0 15000000000\ninterval resource end price\n1 0 15000 300000\n1 0 20000 378402\n1 0 30000 488402\n"
+    ≡ bytes "interval constraint verdict demand left\n1 0 1 10000000000 0\ninterval constraint portfolio withheld\n1 0 0 15000000000\ninterval resource end price\n1 0 15000 300000\n1 0 20000 378402\n1 0 24000 444403\n1 0 30000 488402\n"
 unfolding verdictText curveText curveTable
 case-T =
     ap (λ (v : List Verdict). pageOf v (map (curveRows (hourT .rows) (hourT .standing .floors)) (listed (λ r. r) (min (hourT .market .resources) 64)))) verdicts-are

@@ -8,7 +8,7 @@ use Rattle.rules_number.specs.Order.{inRange}
 use Rattle.rules_number.specs.Over.{sumTo, allTo, highestTo, listed, those, sumOver, padded, upTo}
 use Rattle.rules_curve.specs.Refusals.{eachTo}
 use Rattle.rules_curve.specs.Curves.{priceAt, chain, curveRefusal, curveOf}
-use Rattle.rules_cost.specs.Costs.{width, unlimited, incrementalRate, fuel, greenhouse, feePart, stepCost, withAdder, rateAt, largestRate, stepPrice, raisedPrice, costCurve, mwSuits, mwGood, heatGood, chargesInRange, pricesInRange, ratesGood, costRefusal}
+use Rattle.rules_cost.specs.Costs.{mark, firstTo, splitAt, stepCount, segmentAt, endAt, edgeAt, widthAt, width, unlimited, incrementalRate, fuel, greenhouse, feePart, stepCost, withAdder, rateAt, largestRate, stepPrice, raisedPrice, costCurve, mwSuits, mwGood, heatGood, chargesInRange, pricesInRange, ratesGood, costRefusal}
 use Rattle.rules_mitigation.specs.Mitigation.{segmentsN, joined, joinedAfter, mitigated, usedSteps}
 use Rattle.rules_interval.specs.Intervals.{allWithin, factorsGood, outputsGood, intervalRefusal}
 use Rattle.rules_interval.specs.declared.Interval.{Interval}
@@ -123,7 +123,7 @@ pub record Worked : Type 0 where
 
 pub worked : Worked
 unfolding inRange sumTo allTo highestTo listed those sumOver padded upTo eachTo priceAt chain curveRefusal curveOf segmentsN joined joinedAfter mitigated
-    width unlimited incrementalRate fuel greenhouse feePart stepCost withAdder rateAt largestRate stepPrice raisedPrice costCurve
+    mark firstTo splitAt stepCount segmentAt endAt edgeAt widthAt width unlimited incrementalRate fuel greenhouse feePart stepCost withAdder rateAt largestRate stepPrice raisedPrice costCurve
     mwSuits mwGood heatGood chargesInRange pricesInRange ratesGood costRefusal
     allWithin factorsGood outputsGood intervalRefusal
     demand supply share withholdable offer offers largest top total sellers left isNonCompetitive

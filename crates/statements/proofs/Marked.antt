@@ -12,7 +12,7 @@ use Rattle.rules_curve.specs.declared.RawStep.{RawStep}
 use Rattle.rules_curve.specs.declared.RawCurve.{RawCurve}
 use Rattle.rules_mitigation.specs.Mitigation.{capped, lowered, usedSteps}
 use Rattle.rules_mitigation.specs.declared.FloorPrice.the-variants.{Uncut, Cut}
-use Rattle.rules_cost.specs.Costs.{isLimited, rateAt, costCurve, costRefusal}
+use Rattle.rules_cost.specs.Costs.{stepCount, endAt, isLimited, rateAt, costCurve, costRefusal}
 use Rattle.rules_cost.specs.declared.Point.{Point}
 use Rattle.rules_cost.specs.declared.Costs.{Costs}
 use Rattle.rules_interval.specs.declared.Interval.{Interval}
@@ -77,9 +77,13 @@ curveT calls = usedSteps (curveIn (hourAfterAll (openedHour openingT) calls) 0)
 abbrev verdictT : Verdict
 verdictT = getD (hourVerdicts (openedHour openingT) (intervalWith 600000)) 0 notBinding
 
--- P3's points: n = 3 × 4 - h × 1 and w = 4 - 1
-abbrev costs3 : ℕ → Costs
-costs3 h = costs 2 (point 1 h ∷ point 4 3 ∷ []) 0 0 0 0 0
+-- P3's points: n = h' × 5 - h × 2 and w = 5 - 2
+abbrev costs3 : ℕ → ℕ → Costs
+costs3 h h' = costs 2 (point 2 h ∷ point 5 h' ∷ []) 0 0 0 0 0
+
+-- P4's points, with the middle one at m
+abbrev endsAt : ℕ → Costs
+endsAt m = costs 3 (point 20000 9000 ∷ point m 9500 ∷ point 30000 9400 ∷ []) 0 0 0 0 0
 
 -- P5 and P6: four resources of four portfolios, each with e = 1; the first is seller s
 abbrev path : List ℕ → ℕ → Path
@@ -96,14 +100,14 @@ path dispatch s = record {
 }
 
 -- ---- the table
--- "P1 T's costs give 378402, 488402."
-pub p1 : (costRefusal costsT ≡ 0) × (stepsOf (costCurve costsT) ≡ step 20000 378402 ∷ step 30000 488402 ∷ [])
+-- "P1 T's costs give 378402, 488402." With the split "the second segment becomes 444403 up to 24000 and 488402 up to 30000"
+pub p1 : (costRefusal costsT ≡ 0) × (stepsOf (costCurve costsT) ≡ step 20000 378402 ∷ step 24000 444403 ∷ step 30000 488402 ∷ [])
 p1 = (marked .p1-taken, marked .p1)
 
 -- "P2 T's curve.", and what T prints before it: verdict 1, demand 10000000000, left 0; portfolio 0 withholds 15000000000
 pub p2 : (openingRefusal openingT ≡ 0)
     × (hourRefusal (openedHour openingT) (intervalWith 600000) ≡ 0)
-    × (curveT (intervalWith 600000 ∷ []) ≡ step 15000 300000 ∷ step 20000 378402 ∷ step 30000 488402 ∷ [])
+    × (curveT (intervalWith 600000 ∷ []) ≡ step 15000 300000 ∷ step 20000 378402 ∷ step 24000 444403 ∷ step 30000 488402 ∷ [])
     × (findingNumber (verdictT .finding) ≡ 1)
     × (verdictT .demand ≡ 10000000000)
     × (verdictT .left ≡ 0)
@@ -112,12 +116,17 @@ pub p2 : (openingRefusal openingT ≡ 0)
 p2 = (marked .p2-opened, marked .p2-taken, marked .p2, marked .p2-finding, marked .p2-demand, marked .p2-left, marked .p2-named, marked .p2-withheld)
 
 -- "P3 n 10, w 3: R 4; n -10: -3."
-pub p3 : (rateAt (costs3 2) 0 ≡ pos 4) × (rateAt (costs3 22) 0 ≡ negℤ (pos 3))
+pub p3 : ((rateAt (costs3 5 4) 0 ≡ pos 4) × (rateAt (costs3 5 4) 1 ≡ pos 4)) × ((rateAt (costs3 10 2) 0 ≡ negℤ (pos 3)) × (rateAt (costs3 10 2) 1 ≡ negℤ (pos 3)))
 p3 = (marked .p3-up, marked .p3-down)
 
--- "P4 PMax 30000: end 24000 is limited, 24001 isn't."
+-- "P4 PMax 30000: end 24000 is limited, 24001 isn't." With the split an end at 24000 is one step, and one at 24001 is two, of which the upper isn't limited
 pub p4 : (isLimited (pos 30000) (pos 24000) ≡ true) × (isLimited (pos 30000) (pos 24001) ≡ false)
 p4 = (marked .p4-limited, marked .p4-not)
+
+pub p4-split : ((stepCount (endsAt 24000) ≡ 2) × (rateAt (endsAt 24000) 0 ≡ pos 9500))
+    × ((stepCount (endsAt 24001) ≡ 3) × (endAt (endsAt 24001) 0 ≡ pos 24000) × (endAt (endsAt 24001) 1 ≡ pos 24001))
+    × ((rateAt (endsAt 24001) 0 ≡ pos 9500) × (rateAt (endsAt 24001) 1 ≡ pos 12000))
+p4-split = (marked .p4-whole, marked .p4-two, marked .p4-two-rates)
 
 -- "P5 withholdable 5, 4, 3, 2, all supply: left 2; demand 2 competitive, 3 not."
 pub p5 : (left (path (2 ∷ []) 1) ≡ 2) × (verdictOf (path (2 ∷ []) 1) .finding ≡ finding.Competitive) × (verdictOf (path (3 ∷ []) 1) .finding ≡ finding.NonCompetitive)

@@ -1,19 +1,19 @@
 -- Paper 01, Refused, by place, and "each number given only on its condition": what 1 to 8 say, and which curves and costs are taken. Assumes nothing.
 use mathlib.Core.List.{List, [], _∷_}
-use mathlib.Core.Logic.{_⊎_, _↔_}
+use mathlib.Core.Logic.{_⊎_, inl, inr, ⊎-elim, _↔_}
 use mathlib.Core.Path.{_≡_, refl}
-use Prim.Native.Nat.{ℕ, zero, suc, _-_, _≤_, _<_}
+use Prim.Native.Nat.{ℕ, zero, suc, _-_, _*_, _/_, _≤_, _<_}
 use lib.IntN.{ℤ, pos, negℤ, _-ℤ_, _*ℤ_}
 use lib.ListN.{length, getD}
 use lib.Signed.{_≤ℤ_, _<ℤ_}
-use Rattle.rules_number.specs.Order.{minZ, maxZ}
+use Rattle.rules_number.specs.Order.{minZ, maxZ, natOf}
 use Rattle.rules_curve.specs.Demands.{First}
 use Rattle.rules_curve.specs.Conditions as rules
 use Rattle.rules_curve.specs.Conditions.{Counted, Edged, Priced, BidPriced, DefaultPriced}
 use Rattle.rules_curve.specs.Curves.{bidRefusal, defaultRefusal}
 use Rattle.rules_curve.proofs.Exactly.{bid-exactly, default-exactly}
 use Rattle.rules_curve.specs.declared.RawCurve.{RawCurve}
-use Rattle.rules_cost.specs.Conditions.{Pointed, Quantified, Heated, Charged, IsRate, Rated}
+use Rattle.rules_cost.specs.Conditions.{Pointed, Quantified, Heated, Charged, Part, whole, lower, upper, IsRate, Rated}
 use Rattle.rules_cost.specs.Costs.{costRefusal}
 use Rattle.rules_cost.proofs.Exactly.{cost-exactly}
 use Rattle.rules_cost.specs.declared.Costs.{Costs}
@@ -99,16 +99,29 @@ module _ (c : Costs) where
   abbrev pub PMax : ℤ
   PMax = m (c .count - 1)
 
-  -- "R = n / w, up. If 5 × m' <= 4 × PMax, R is at most the larger of h and h'": q is n / w, up
-  abbrev pub RateBy : ℕ → ℤ → ℤ → Type 0
-  RateBy i q R =
+  -- "k, which is 4 × PMax / 5 rounded down, where k lies strictly inside" the segment i
+  abbrev pub k : ℤ
+  k = pos (4 * natOf PMax / 5)
+
+  abbrev pub Across : ℕ → Type 0
+  Across i = (m i <ℤ k) × (k <ℤ m (suc i))
+
+  -- what reaches from one quantity to another is the segment i, or the lower or the upper part of it where it is split
+  abbrev pub PartOf : ℕ → ℤ → ℤ → Type 0
+  PartOf i from to =
+      ((Across i → ⊥) × (from ≡ m i) × (to ≡ m (suc i)))
+      ⊎ (Across i × (((from ≡ m i) × (to ≡ k)) ⊎ ((from ≡ k) × (to ≡ m (suc i)))))
+
+  -- "R = n / w, up. If 5 × m' <= 4 × PMax, R is at most the larger of h and h'", with "n and w of the whole segment" and the end of the part: q is n / w, up
+  abbrev pub RateBy : ℕ → ℤ → ℤ → ℤ → Type 0
+  RateBy i to q R =
       (n i ≤ℤ (q *ℤ w i)) × (((q -ℤ pos 1) *ℤ w i) <ℤ n i)
-      × ((pos 5 *ℤ m (suc i)) ≤ℤ (pos 4 *ℤ PMax) → R ≡ minZ q (maxZ (h i) (h (suc i))))
-      × ((pos 4 *ℤ PMax) <ℤ (pos 5 *ℤ m (suc i)) → R ≡ q)
+      × ((pos 5 *ℤ to) ≤ℤ (pos 4 *ℤ PMax) → R ≡ minZ q (maxZ (h i) (h (suc i))))
+      × ((pos 4 *ℤ PMax) <ℤ (pos 5 *ℤ to) → R ≡ q)
 
   -- 8 "an R, after the 80% limit, outside -100,000 to 100,000"
   abbrev Rates : Type 0
-  Rates = (i : ℕ) → suc i < c .count → (q R : ℤ) → RateBy i q R → Within (negℤ (pos 100000)) (pos 100000) R
+  Rates = (i : ℕ) → suc i < c .count → (from to : ℤ) → PartOf i from to → (q R : ℤ) → RateBy i to q R → Within (negℤ (pos 100000)) (pos 100000) R
 
 pub record CostsSay (c : Costs) (r : ℕ) : Type 0 where
   pub four : (r ≡ 4) ↔ (Points c → ⊥)
@@ -180,14 +193,29 @@ module _ (c : Costs) where
     λ a. record { gas = a .0; rate = a .1; allowance = a .2; om = a .3; msc = a .4; soc = a .5; fee = a .6 },
   )
 
-  pub rate-is : (i : ℕ) (R : ℤ) → IsRate c i R ↔ ((q : ℤ) × RateBy c i q R)
-  rate-is i R = (
+  pub part-is : (i : ℕ) (from to : ℤ) → Part c i from to ↔ PartOf c i from to
+  part-is i from to = (there, back)
+    where
+      there : Part c i from to → PartOf c i from to
+      there (whole x f t) = inl (x, f, t)
+      there (lower x f t) = inr (x, inl (f, t))
+      there (upper x f t) = inr (x, inr (f, t))
+
+      back : PartOf c i from to → Part c i from to
+      back (inl p) = whole (p .0) (p .1) (p .2)
+      back (inr p) = ⊎-elim (λ q. lower (p .0) (q .0) (q .1)) (λ q. upper (p .0) (q .0) (q .1)) (p .1)
+
+  pub rate-is : (i : ℕ) (to R : ℤ) → IsRate c i to R ↔ ((q : ℤ) × RateBy c i to q R)
+  rate-is i to R = (
     (λ a. (a .q, (a .enough, a .no-more, a .limited, a .unlimited))),
     λ a. record { q = a .0; enough = a .1 .0; no-more = a .1 .1; limited = a .1 .2; unlimited = a .1 .3 },
   )
 
   rates-are : Rated c ↔ Rates c
-  rates-are = ((λ a i l q R b. a i l R (rate-is i R .1 (q, b))), λ a i l R b. let d = rate-is i R .0 b in a i l (d .0) R (d .1))
+  rates-are = (
+    (λ a i l from to p q R b. a i l from to R (part-is i from to .1 p) (rate-is i to R .1 (q, b))),
+    λ a i l from to R p b. let d = rate-is i to R .0 b in a i l from to (part-is i from to .0 p) (d .0) R (d .1),
+  )
 
   abbrev cost-items : List Item
   cost-items = (4 says points-are) ∷ (5 says quantities-are) ∷ (6 says heats-are) ∷ (7 says charges-are) ∷ (8 says rates-are) ∷ []

@@ -69,11 +69,12 @@ fn step(end: i64, price: i64) -> RawStep {
     }
 }
 
-// A raw curve of two steps, of which the first `count` count.
-fn curve_of(start: i64, count: usize, first: RawStep, second: RawStep) -> RawCurve {
+// A raw curve of three steps, of which the first `count` count.
+fn curve_of(start: i64, count: usize, first: RawStep, second: RawStep, third: RawStep) -> RawCurve {
     let mut steps = [step(0, 0); Curve::MAX_STEPS];
     steps[0] = first;
     steps[1] = second;
+    steps[2] = third;
     RawCurve {
         start: start,
         count: count,
@@ -113,10 +114,22 @@ fn costs() -> Costs {
 fn case_t(portfolio: i64) -> Resource {
     Resource {
         portfolio: portfolio,
-        bid: curve_of(10_000, 2, step(15_000, 300_000), step(30_000, 900_000)),
+        bid: curve_of(
+            10_000,
+            2,
+            step(15_000, 300_000),
+            step(30_000, 900_000),
+            step(0, 0),
+        ),
         source: Source::Costs,
         costs: costs(),
-        pack: curve_of(10_000, 2, step(20_000, 378_402), step(30_000, 488_402)),
+        pack: curve_of(
+            10_000,
+            3,
+            step(20_000, 378_402),
+            step(24_000, 444_403),
+            step(30_000, 488_402),
+        ),
     }
 }
 
@@ -139,10 +152,10 @@ fn case_t_packed(portfolio: i64) -> Resource {
 fn p9(portfolio: i64) -> Resource {
     Resource {
         portfolio: portfolio,
-        bid: curve_of(0, 1, step(20_000, 900_000), step(0, 0)),
+        bid: curve_of(0, 1, step(20_000, 900_000), step(0, 0), step(0, 0)),
         source: Source::Pack,
         costs: costs(),
-        pack: curve_of(0, 1, step(20_000, 378_402), step(0, 0)),
+        pack: curve_of(0, 1, step(20_000, 378_402), step(0, 0), step(0, 0)),
     }
 }
 

@@ -43,7 +43,11 @@ fn print(coverage: &Coverage) {
     );
     println!("  with equal ones among them {}", coverage.equal_sellers);
     println!("most steps in a curve {}", coverage.most_steps);
-    println!("curves of 19 steps {}", coverage.curves_of_19_steps);
+    println!("curves of 20 steps {}", coverage.curves_of_20_steps);
+    println!("default curves split {}", coverage.split_segments);
+    println!("default curves with the mark at a point {}", coverage.marks_at_a_point);
+    println!("default curves of 11 steps {}", coverage.default_curves_of_11_steps);
+    println!("curves with both parts {}", coverage.curves_with_both_parts);
     println!("curves cut {}", coverage.curves_cut);
     println!("curves cut further {}", coverage.curves_cut_further);
     println!("submitted prices at a cap {}", coverage.prices_at_cap);

@@ -12,7 +12,7 @@ pub enum Scale {
     Typical,
     /// Values at their limits.
     Limits,
-    /// Bid and default curve cross at every edge: up to 19 steps.
+    /// Bid and default curve cross at every edge: up to 20 steps.
     Crossing,
 }
 

@@ -20,7 +20,10 @@ abbrev m' : tie.Start → Meant
 m' s = held (mw-size (s .args .next .mw) (s .pre .0 .1 .0)) tt
 
 abbrev top : tie.Start → Meant
-top s = held (mw-size (s .args .pmax) (s .pre .0 .1 .1)) tt
+top s = held (mw-size (s .args .pmax) (s .pre .0 .1 .1 .1)) tt
+
+abbrev e : tie.Start → Meant
+e s = held (mw-size (s .args .end) (s .pre .0 .1 .1 .0)) tt
 
 abbrev h : tie.Start → Meant
 h s = held (heat-size (s .args .from .heat) (s .pre .1 .0)) tt
@@ -50,10 +53,10 @@ ceil-by-requires : tie.Need-ceil-by-requires
 ceil-by-requires c κs = search needs
 
 mul-if1 : tie.Need-mul-if1
-mul-if1 c = let s = c .before .before .before .before .before .before .before .before .before .before .before in fits (const 5 ⊗ m' s) tt
+mul-if1 c = let s = c .before .before .before .before .before .before .before .before .before in fits (const 5 ⊗ e s) tt
 
 mul-if1-2 : tie.Need-mul-if1-2
-mul-if1-2 c = let s = c .before .before .before .before .before .before .before .before .before .before .before in fits (const 4 ⊗ top s) tt
+mul-if1-2 c = let s = c .before .before .before .before .before .before .before .before .before in fits (const 4 ⊗ top s) tt
 
 max-requires : tie.Need-max-requires
 max-requires c κs = search needs
@@ -70,14 +73,14 @@ unlimited-is c =
     came (c .ceil-by .result) (c .ceil-by .ok) ∙ c .ceil-by .ensures ∙ ap₂ (λ (a b : ℤ). ceilDiv a (natOf b)) (kept (n s) tt .same) (kept (w s) tt .same)
 
 -- the limit's test
-limit-is : (s : tie.Start) → leZ (kept (const 5 ⊗ m' s) tt .code) (kept (const 4 ⊗ top s) tt .code) ≡ isLimited (s .args .pmax) (s .args .next .mw)
-limit-is s = ap₂ leZ (kept (const 5 ⊗ m' s) tt .same) (kept (const 4 ⊗ top s) tt .same)
+limit-is : (s : tie.Start) → leZ (kept (const 5 ⊗ e s) tt .code) (kept (const 4 ⊗ top s) tt .code) ≡ isLimited (s .args .pmax) (s .args .end)
+limit-is s = ap₂ leZ (kept (const 5 ⊗ e s) tt .same) (kept (const 4 ⊗ top s) tt .same)
 
 returns : tie.Need-returns
 unfolding incrementalRate
 returns c =
-    let s = c .before .before .before .before .before .before .before .before .before .before .before .before .before .before .before .before in
-    let b = c .before .before .before .before .before .before .before in
+    let s = c .before .before .before .before .before .before .before .before .before .before .before .before .before .before in
+    let b = c .before .before .before .before .before in
     let t = sym (limit-is s) ∙ c .before .before .before .before .if1 .taken in
     rw t (came (c .min .result) (c .min .ok) ∙ c .min .ensures
     ∙ ap₂ minZ (unlimited-is b) (came (c .before .max .result) (c .before .max .ok) ∙ c .before .max .ensures ∙ ap₂ maxZ (h s .same) (h' s .same)))
@@ -85,8 +88,8 @@ returns c =
 returns-2 : tie.Need-returns-2
 unfolding incrementalRate
 returns-2 c =
-    let s = c .before .before .before .before .before .before .before .before .before .before .before .before in
-    let b = c .before .before .before in
+    let s = c .before .before .before .before .before .before .before .before .before .before in
+    let b = c .before in
     let t = sym (limit-is s) ∙ c .if1 .left in
     rw t (unlimited-is b)
 

@@ -1,10 +1,11 @@
 -- `cost::stepped` meets its contract: each turn of the loop adds a step to what `Stepped` says. Assumes nothing.
-use mathlib.Core.Bool.{true}
-use mathlib.Core.Path.{_≡_, refl, sym, ap, _∙_}
-use Prim.Native.Nat.{ℕ, _+_, _-_, _≤_, _<_}
+use mathlib.Core.Bool.{true, cond}
+use mathlib.Core.Path.{_≡_, refl, sym, ap, ap₂, subst, _∙_}
+use Prim.Native.Nat.{ℕ, suc, _+_, _-_, _*_, _/_, _≤_, _<_}
 use native.Mathlib.Numerals.{add-one}
 use native.Mathlib.Omega.{arith}
-use lib.IntN.{ℤ}
+use lib.Dec.{leb, ltb, eqb}
+use lib.IntN.{ℤ, pos, _-ℤ_}
 use mir.Syntax.{w64}
 use mir.Val.{toZ}
 use borrow.Author.Needs.{needs}
@@ -12,29 +13,62 @@ use borrow.Author.Tests.{not-true, not-false}
 use Rattle.rules_number.specs.Order.{maxZ, natOf}
 use Rattle.rules_number.specs.Over.{listed, padded}
 use Rattle.rules_number.proofs.Kit.{rd, came, negsuc-fits}
-use Rattle.rules_number.proofs.Meant.{Meant, fits, kept, _⊖_, held}
+use Rattle.rules_number.proofs.Meant.{Meant, fits, kept, bits, _⊖_, held}
 use Rattle.rules_number.proofs.OrderLaws.{max-least}
-use Rattle.rules_cost.specs.Costs.{mostPoints, pointAt, mwAt, pmax, width, incrementalRate, rateAt, withAdder, mwInRange, rateInRange}
-use Rattle.rules_cost.proofs.RangeLaws.{mw-size, few, mw-in, heat-in, has-width}
+use Rattle.rules_cost.specs.Costs.{mostPoints, pointAt, mwAt, pmax, segmentCount, mark, splitAt, stepCount, segmentAt, endAt, widthAt, incrementalRate, rateAt, withAdder, mwInRange, rateInRange}
+use Rattle.rules_cost.proofs.RangeLaws.{mw-size, few, mw-in, heat-in}
+use Rattle.rules_cost.proofs.SplitLaws.{segment-among}
+use Rattle.rules_cost.proofs.EdgeLaws.{eleven-suffice, wide-step, width-above}
 use Rattle.rules_cost.proofs.CostLaws.{largest-in}
 use Rattle.cost.proofs.StepLaws.{Stepped, before-steps, next-step, rate-fails, rates-good, curve-is}
-use Rattle.rules_cost.specs.declared.Point.{Point}
 use Rattle.rules_cost.specs.declared.Costs.{Costs}
 use Rattle.cost.proofs.stepped.Statement.{statement}
 use Rattle.cost.proofs.stepped.Tie as tie
 
 abbrev Inv-loop : tie.InvT-loop
-Inv-loop self count top first from₀ largest₀ price₀ steps₀ i₀ from largest price steps i = Stepped self from (toZ w64 largest) (toZ w64 price) steps i
+Inv-loop costs segments top k split count first edge₀ largest₀ price₀ steps₀ t₀ edge largest price steps t = Stepped costs (toZ w64 edge) (toZ w64 largest) (toZ w64 price) steps t
 
 abbrev μ-loop : tie.MeasureT-loop
-μ-loop self count top first from₀ largest₀ price₀ steps₀ i₀ from largest price steps i = count - i
+μ-loop costs segments top k split count first edge₀ largest₀ price₀ steps₀ t₀ edge largest price steps t = count - t
+
+-- ---- over plain values
+end-by : (t s s' : ℕ) (k k' m m' : ℤ) → s ≡ s' → k ≡ k' → m ≡ m' → cond (eqb t s) k m ≡ cond (eqb t s') k' m'
+end-by t s s' k k' m m' a b c = rw (a, b, c)
+
+rate-by : (d : Costs) (p p' e e' : ℤ) (i j n : ℕ) → p ≡ p' → e ≡ e' → i ≡ j → n ≡ suc j
+    → incrementalRate p e (pointAt d i) (pointAt d n) ≡ incrementalRate p' e' (pointAt d j) (pointAt d (suc j))
+rate-by d p p' e e' i j n a b c f = rw (a, b, c, f)
 
 -- the count is 2 to 11
 count-in : (s : tie.Start Inv-loop μ-loop) → (2 ≤ s .args .t1 .count) × (s .args .t1 .count ≤ mostPoints)
 count-in s = few (s .args .t1) (s .pre .0)
 
-sub-count : tie.Need-sub-count Inv-loop μ-loop
-sub-count c = omega (arith, count-in c)
+-- PMax
+mw-top : (s : tie.Start Inv-loop μ-loop) → mwInRange (pmax (s .args .t1)) ≡ true
+mw-top s = mw-in (s .args .t1) (s .pre .1 .0) (s .args .t1 .count - 1) (omega (arith, count-in s))
+
+top-read : (s : tie.Start Inv-loop μ-loop) → rd (pmax (s .args .t1)) ≡ pmax (s .args .t1)
+top-read s = held (mw-size (pmax (s .args .t1)) (mw-top s)) tt .same
+
+-- ---- k, the segment that is split, and how many steps there are
+mark-is : (m : tie.After-mark-of Inv-loop μ-loop) → m .mark-of .result ≡ mark (m .before .before .before .args .t1)
+unfolding mark
+mark-is m = m .mark-of .ensures ∙ ap (λ (z : ℤ). pos (4 * natOf z / 5)) (top-read (m .before .before .before))
+
+mark-read : (m : tie.After-mark-of Inv-loop μ-loop) → rd (m .mark-of .result) ≡ mark (m .before .before .before .args .t1)
+mark-read m = came (m .mark-of .result) (m .mark-of .ok) ∙ mark-is m
+
+split-is : (p : tie.After-split-at Inv-loop μ-loop) → p .split-at .result ≡ splitAt (p .before .before .before .before .args .t1)
+split-is p = p .split-at .ensures
+
+count-is : (n : tie.After-steps-of Inv-loop μ-loop) → n .steps-of .result ≡ stepCount (n .before .before .before .before .before .args .t1)
+unfolding stepCount
+count-is n =
+    let d = n .before .before .before .before .before .args .t1 in
+    n .steps-of .ensures ∙ ap (λ (x : ℕ). cond (ltb x (segmentCount d)) (suc (segmentCount d)) (segmentCount d)) (split-is (n .before))
+
+sub-segments : tie.Need-sub-segments Inv-loop μ-loop
+sub-segments c = omega (arith, count-in c)
 
 mul-top : tie.Need-mul-top Inv-loop μ-loop
 mul-top c = omega (arith, count-in c)
@@ -42,54 +76,96 @@ mul-top c = omega (arith, count-in c)
 element-copy-out-top : tie.Need-element-copy-out-top Inv-loop μ-loop
 element-copy-out-top c = omega (arith, count-in c)
 
+mark-of-requires : tie.Need-mark-of-requires Inv-loop μ-loop
+mark-of-requires c κs = let s = c .before .before in subst (λ (z : ℤ). mwInRange z ≡ true) (sym (top-read s)) (mw-top s)
+
+split-at-requires : tie.Need-split-at-requires Inv-loop μ-loop
+split-at-requires c κs = (c .before .before .before .pre .0, mark-read c)
+
+steps-of-requires : tie.Need-steps-of-requires Inv-loop μ-loop
+steps-of-requires c κs = omega (arith, count-in (c .before .before .before .before))
+
 element-copy-out-first : tie.Need-element-copy-out-first Inv-loop μ-loop
 element-copy-out-first c = search needs
 
 sub-largest : tie.Need-sub-largest Inv-loop μ-loop
 sub-largest c = negsuc-fits 99999 tt
 
+-- the first quantity
+first-read : (s : tie.Start Inv-loop μ-loop) → rd (mwAt (s .args .t1) 0) ≡ mwAt (s .args .t1) 0
+first-read s = held (mw-size (mwAt (s .args .t1) 0) (mw-in (s .args .t1) (s .pre .1 .0) 0 (omega (arith, count-in s)))) tt .same
+
 loop-holds : tie.Need-loop-holds Inv-loop μ-loop
 unfolding padded listed
-loop-holds c = before-steps (c .before .before .args .t1)
+loop-holds c = let s = c .before .before .before .before .before .before .before in before-steps (s .args .t1) _ (first-read s)
 
--- ---- in the loop: the costs, the step's number, and what the checks say of its two points
+-- ---- in the loop: the costs, the step's number and its segment
 abbrev start : tie.In-loop Inv-loop μ-loop → tie.Start Inv-loop μ-loop
-start k = k .before .before .before .before
+start k = k .before .before .before .before .before .before .before .before .before
 
 abbrev costs : tie.In-loop Inv-loop μ-loop → Costs
 costs k = start k .args .t1
 
 abbrev at : tie.In-loop Inv-loop μ-loop → ℕ
-at k = k .before .loop .i
+at k = k .before .loop .t
 
-more : (k : tie.In-loop Inv-loop μ-loop) → at k + 1 < costs k .count
-more k = omega (arith, k .loop-test .taken)
+more : (k : tie.In-loop Inv-loop μ-loop) → at k < stepCount (costs k)
+more k = subst (λ (n : ℕ). at k < n) (count-is (k .before .before .before .before)) (k .loop-test .taken)
 
-mw-next : (k : tie.In-loop Inv-loop μ-loop) → mwInRange (mwAt (costs k) (at k + 1)) ≡ true
-mw-next k = mw-in (costs k) (start k .pre .1 .0) (at k + 1) (more k)
+among : (k : tie.In-loop Inv-loop μ-loop) → suc (segmentAt (costs k) (at k)) < costs k .count
+among k = segment-among (costs k) (start k .pre .1 .0) (at k) (more k)
 
-mw-from : (k : tie.In-loop Inv-loop μ-loop) → mwInRange (k .before .loop .from .mw) ≡ true
-mw-from k = rw (k .before .loop .inv .reached) (mw-in (costs k) (start k .pre .1 .0) (at k) (omega (arith, more k)))
+segment-is : (a : tie.After-segment-of Inv-loop μ-loop) → a .segment-of .result ≡ segmentAt (costs (a .before)) (at (a .before))
+unfolding segmentAt
+segment-is a =
+    let k = a .before in
+    a .segment-of .ensures ∙ ap (λ (x : ℕ). cond (leb (at k) x) (at k) (at k - 1)) (split-is (k .before .before .before .before .before))
 
-mw-top : (k : tie.In-loop Inv-loop μ-loop) → mwInRange (pmax (costs k)) ≡ true
-mw-top k = mw-in (costs k) (start k .pre .1 .0) (costs k .count - 1) (omega (arith, more k))
+next-is : (a : tie.After-segment-of Inv-loop μ-loop) → a .segment-of .result + 1 ≡ suc (segmentAt (costs (a .before)) (at (a .before)))
+next-is a = add-one (a .segment-of .result) ∙ ap suc (segment-is a)
 
-abbrev wide : tie.In-loop Inv-loop μ-loop → Meant
-wide k = held (mw-size (mwAt (costs k) (at k + 1)) (mw-next k)) tt ⊖ held (mw-size (k .before .loop .from .mw) (mw-from k)) tt
+near : (a : tie.After-segment-of Inv-loop μ-loop) → a .segment-of .result + 1 < costs (a .before) .count
+near a = subst (λ (n : ℕ). n < costs (a .before) .count) (sym (next-is a)) (among (a .before))
 
-width-is : (k : tie.In-loop Inv-loop μ-loop) → natOf (kept (wide k) tt .code) ≡ width (pointAt (costs k) (at k)) (pointAt (costs k) (at k + 1))
-unfolding width
-width-is k = ap natOf (kept (wide k) tt .same) ∙ ap (λ (q : Point). width q (pointAt (costs k) (at k + 1))) (k .before .loop .inv .reached)
+-- the end
+end-is : (e : tie.After-end-of Inv-loop μ-loop) → e .end-of .result ≡ endAt (costs (e .before .before .before .before .before)) (at (e .before .before .before .before .before))
+unfolding endAt
+end-is e =
+    let a = e .before .before .before .before in
+    let k = a .before in
+    let d = costs k in
+    let i = a .segment-of .result in
+    e .end-of .ensures
+    ∙ end-by (at k) _ (splitAt d) _ (mark d) _ (mwAt d (suc (segmentAt d (at k)))) (split-is (k .before .before .before .before .before)) (mark-read (k .before .before .before .before .before .before))
+    (held (mw-size (mwAt d (i + 1)) (mw-in d (start k .pre .1 .0) (i + 1) (near a))) tt .same ∙ ap (mwAt d) (next-is a))
+
+end-in : (e : tie.After-end-of Inv-loop μ-loop) → mwInRange (e .end-of .result) ≡ true
+end-in e =
+    let k = e .before .before .before .before .before in
+    subst (λ (z : ℤ). mwInRange z ≡ true) (sym (end-is e)) (wide-step (costs k) (start k .pre .1 .0) (at k) (more k) .to-in)
+
+end-read : (e : tie.After-end-of Inv-loop μ-loop) → rd (e .end-of .result) ≡ e .end-of .result
+end-read e = came (e .end-of .result) (e .end-of .ok)
+
+edge-in : (k : tie.In-loop Inv-loop μ-loop) → mwInRange (toZ w64 (k .before .loop .edge)) ≡ true
+edge-in k = subst (λ (z : ℤ). mwInRange z ≡ true) (sym (k .before .loop .inv .reached)) (wide-step (costs k) (start k .pre .1 .0) (at k) (more k) .from-in)
+
+abbrev wide : tie.After-end-of Inv-loop μ-loop → Meant
+wide e = held (mw-size (e .end-of .result) (end-in e)) tt ⊖ bits (e .before .before .before .before .before .before .loop .edge) (mw-size (toZ w64 (e .before .before .before .before .before .before .loop .edge)) (edge-in (e .before .before .before .before .before)))
+
+width-is : (e : tie.After-end-of Inv-loop μ-loop) → natOf (kept (wide e) tt .code) ≡ widthAt (costs (e .before .before .before .before .before)) (at (e .before .before .before .before .before))
+unfolding widthAt
+width-is e = ap natOf (kept (wide e) tt .same ∙ ap₂ _-ℤ_ (end-is e) (e .before .before .before .before .before .before .loop .inv .reached))
 
 -- R, and its test
-rate-is : (c : tie.After-incremental-rate Inv-loop μ-loop) → c .incremental-rate .result ≡ rateAt (costs (c .before .before .before)) (at (c .before .before .before))
+rate-is : (c : tie.After-incremental-rate Inv-loop μ-loop) → c .incremental-rate .result ≡ rateAt (costs (c .before .before .before .before .before .before .before)) (at (c .before .before .before .before .before .before .before))
 unfolding rateAt
 rate-is c =
-    let k = c .before .before .before in
-    c .incremental-rate .ensures
-    ∙ ap (λ (z : ℤ). incrementalRate z (k .before .loop .from) (pointAt (costs k) (at k + 1))) (held (mw-size (pmax (costs k)) (mw-top k)) tt .same)
-    ∙ ap (λ (q : Point). incrementalRate (pmax (costs k)) q (pointAt (costs k) (at k + 1))) (k .before .loop .inv .reached)
-    ∙ ap (λ (n : ℕ). incrementalRate (pmax (costs k)) (pointAt (costs k) (at k)) (pointAt (costs k) n)) (add-one (at k))
+    let e = c .before .before in
+    let a = e .before .before .before .before in
+    let k = a .before in
+    let d = costs k in
+    c .incremental-rate .ensures ∙ rate-by d _ (pmax d) _ (endAt d (at k)) _ (segmentAt d (at k)) _ (top-read (start k)) (end-read e ∙ end-is e) (segment-is a) (next-is a)
 
 rate-read : (c : tie.After-incremental-rate Inv-loop μ-loop) → rd (c .incremental-rate .result) ≡ c .incremental-rate .result
 rate-read c = came (c .incremental-rate .result) (c .incremental-rate .ok)
@@ -101,24 +177,49 @@ rate-in : (c : tie.Else1 Inv-loop μ-loop) → rateInRange (c .before .before .i
 rate-in c = sym (range-is (c .before)) ∙ not-false _ (c .if1 .left)
 
 -- M
-largest-is : (c : tie.After-max Inv-loop μ-loop) → rd (c .max .result) ≡ maxZ (toZ w64 (c .before .before .before .before .before .before .before .loop .largest)) (c .before .before .before .incremental-rate .result)
-largest-is c = came (c .max .result) (c .max .ok) ∙ c .max .ensures ∙ ap (maxZ (toZ w64 (c .before .before .before .before .before .before .before .loop .largest))) (rate-read (c .before .before .before))
+largest-is : (c : tie.After-max Inv-loop μ-loop) → rd (c .max .result) ≡ maxZ (toZ w64 (c .before .before .before .before .before .before .before .before .before .before .before .loop .largest)) (c .before .before .before .incremental-rate .result)
+largest-is c =
+    came (c .max .result) (c .max .ok) ∙ c .max .ensures
+    ∙ ap (maxZ (toZ w64 (c .before .before .before .before .before .before .before .before .before .before .before .loop .largest))) (rate-read (c .before .before .before))
+
+segment-of-requires : tie.Need-segment-of-requires Inv-loop μ-loop
+segment-of-requires c κs = search needs
+
+mul-from : tie.Need-mul-from Inv-loop μ-loop
+mul-from c = omega (arith, count-in (start (c .before)), near c)
+
+element-copy-out-from : tie.Need-element-copy-out-from Inv-loop μ-loop
+element-copy-out-from c = omega (arith, count-in (start (c .before)), near c)
 
 add-to : tie.Need-add-to Inv-loop μ-loop
-add-to c = omega (arith, count-in (start c), more c)
+add-to c = omega (arith, count-in (start (c .before .before)), near (c .before))
 
 mul-to : tie.Need-mul-to Inv-loop μ-loop
-mul-to c = omega (arith, count-in (start c), more c)
+mul-to c = omega (arith, count-in (start (c .before .before)), near (c .before))
 
 element-copy-out-to : tie.Need-element-copy-out-to Inv-loop μ-loop
-element-copy-out-to c = omega (arith, count-in (start c), more c)
+element-copy-out-to c = omega (arith, count-in (start (c .before .before)), near (c .before))
+
+end-of-requires : tie.Need-end-of-requires Inv-loop μ-loop
+end-of-requires c κs = search needs
 
 incremental-rate-requires : tie.Need-incremental-rate-requires Inv-loop μ-loop
 incremental-rate-requires c κs =
-    let k = c .before .before in
-    let heats = heat-in (costs k) (start k .pre .1 .1 .0) in (
-      (mw-from k, (mw-next k, rw (held (mw-size (pmax (costs k)) (mw-top k)) tt .same) (mw-top k))),
-      (rw (k .before .loop .inv .reached) (heats (at k) (omega (arith, more k))), heats (at k + 1) (more k)),
+    let e = c .before in
+    let a = e .before .before .before .before in
+    let k = a .before in
+    let s = start k in
+    let d = costs k in
+    let i = a .segment-of .result in
+    let heats = heat-in d (s .pre .1 .1 .0) in (
+      (
+        mw-in d (s .pre .1 .0) i (omega (arith, near a)),
+        (
+          mw-in d (s .pre .1 .0) (i + 1) (near a),
+          (subst (λ (z : ℤ). mwInRange z ≡ true) (sym (end-read e)) (end-in e), subst (λ (z : ℤ). mwInRange z ≡ true) (sym (top-read s)) (mw-top s)),
+        ),
+      ),
+      (heats i (omega (arith, near a)), heats (i + 1) (near a)),
     )
 
 sub-within : tie.Need-sub-within Inv-loop μ-loop
@@ -132,30 +233,33 @@ refused-requires c κs = search needs
 
 returns : tie.Need-returns Inv-loop μ-loop
 returns c =
-    let t = c .before .before in
-    let k = t .before .before .before .before in
+    let w = c .before .before in
+    let k = w .before .before .before .before .before .before .before .before in
     let s = start k in
-    let out = sym (ap rateInRange (rate-is (t .before))) ∙ sym (range-is t) ∙ not-true _ (c .before .if1 .taken) in
-    let bad = rate-fails (costs k) (s .pre .0) (s .pre .1 .0) (s .pre .1 .1 .1) (at k) (k .before .loop .inv) (k .loop-test .taken) out in
+    let out = sym (ap rateInRange (rate-is (w .before))) ∙ sym (range-is w) ∙ not-true _ (c .before .if1 .taken) in
+    let bad = rate-fails (costs k) (s .pre .0) (s .pre .1 .0) (s .pre .1 .1 .1) (at k) (k .before .loop .inv) (more k) out in
     rw (bad, c .refused .ensures) (refl, refl)
 
 max-requires : tie.Need-max-requires Inv-loop μ-loop
 max-requires c κs = search needs
 
 sub-step-price : tie.Need-sub-step-price Inv-loop μ-loop
-sub-step-price c = fits (wide (c .before .before .before .before .before .before .before .before .before .before)) tt
+sub-step-price c = fits (wide (c .before .before .before .before .before)) tt
 
 step-price-requires : tie.Need-step-price-requires Inv-loop μ-loop
 step-price-requires c κs =
-    let k = c .before .before .before .before .before .before .before .before .before .before in
-    let m = c .before .before .before .before in
+    let e = c .before .before .before .before .before in
+    let k = e .before .before .before .before .before in
     let s = start k in
     let l = k .before .loop .inv in
     let M-in : rateInRange (toZ w64 (k .before .loop .largest)) ≡ true = rw (l .largest) (largest-in (costs k) (s .pre .1 .1 .1) (s .pre .1 .0) (at k) (l .short) (l .rates)) in (
       s .pre .1 .1 .1,
       (
-        (rw (largest-is m) (max-least (λ (z : ℤ). rateInRange z ≡ true) _ _ M-in (rate-in (m .before))), rw (rate-read (m .before .before .before)) (rate-in (m .before))),
-        rw (width-is k, add-one (at k)) (has-width (costs k) (s .pre .1 .0) (at k) (omega (arith, more k))),
+        (
+          subst (λ (z : ℤ). rateInRange z ≡ true) (sym (largest-is c)) (max-least (λ (z : ℤ). rateInRange z ≡ true) _ _ M-in (rate-in (c .before))),
+          subst (λ (z : ℤ). rateInRange z ≡ true) (sym (rate-read (c .before .before .before))) (rate-in (c .before)),
+        ),
+        subst (λ (n : ℕ). 0 < n) (sym (width-is e)) (width-above (costs k) (s .pre .1 .0) (at k) (more k)),
       ),
     )
 
@@ -165,32 +269,39 @@ max-requires-2 c κs = search needs
 whole-requires : tie.Need-whole-requires Inv-loop μ-loop
 whole-requires c κs = search needs
 
+-- the step stored has its place
+placed : (c : tie.After-whole Inv-loop μ-loop) → at (c .before .before .before .before .before .before .before .before .before .before .before .before .before) < 11
+placed c =
+    let k = c .before .before .before .before .before .before .before .before .before .before .before .before .before in
+    omega (arith, more k, eleven-suffice (costs k) (count-in (start k) .1))
+
 mul-steps : tie.Need-mul-steps Inv-loop μ-loop
-mul-steps c = omega (arith, count-in (start (c .before .before .before .before .before .before .before .before .before .before .before .before .before .before)), more (c .before .before .before .before .before .before .before .before .before .before .before .before .before .before))
+mul-steps c = omega (arith, placed c)
 
 array-set-from-steps : tie.Need-array-set-from-steps Inv-loop μ-loop
-array-set-from-steps c = omega (arith, count-in (start (c .before .before .before .before .before .before .before .before .before .before .before .before .before .before)), more (c .before .before .before .before .before .before .before .before .before .before .before .before .before .before))
+array-set-from-steps c = omega (arith, placed c)
 
-add-i : tie.Need-add-i Inv-loop μ-loop
-add-i c = omega (arith, count-in (start (c .before .before .before .before .before .before .before .before .before .before .before .before .before .before)), more (c .before .before .before .before .before .before .before .before .before .before .before .before .before .before))
+add-t : tie.Need-add-t Inv-loop μ-loop
+add-t c = omega (arith, placed c)
 
 loop-less : tie.Need-loop-less Inv-loop μ-loop
-loop-less c = omega (arith, more (c .before .before .before .before .before .before .before .before .before .before .before .before .before .before))
+loop-less c = let k = c .before .before .before .before .before .before .before .before .before .before .before .before .before in omega (arith, k .loop-test .taken)
 
 loop-again : tie.Need-loop-again Inv-loop μ-loop
 loop-again c =
-    let k = c .before .before .before .before .before .before .before .before .before .before .before .before .before .before in
+    let p = c .before in
+    let x = p .before in
+    let m = x .before in
+    let r = m .before .before .before in
+    let e = r .before .before in
+    let k = e .before .before .before .before .before in
     let s = start k in
-    let r = c .before .before .before .before .before .before .before .before .before .before .before in
-    let m = c .before .before .before .before .before .before .before .before in
-    let x = c .before .before .before in
-    let p = c .before .before in
-    next-step (costs k) (s .pre .0) (s .pre .1 .0) (s .pre .1 .1 .1) (at k) (k .before .loop .inv) (k .loop-test .taken)
-    (r .incremental-rate .result) (rd (m .max .result)) (x .step-price .result) (rd (p .max2 .result)) (natOf (kept (wide k) tt .code)) (c .whole .result)
-    (rate-is r) (rate-in (m .before)) (largest-is m) (width-is k)
-    (x .step-price .ensures ∙ ap (λ (z : ℤ). withAdder (costs k) (rd (m .max .result)) z (natOf (kept (wide k) tt .code))) (rate-read r))
+    next-step (costs k) (s .pre .0) (s .pre .1 .0) (s .pre .1 .1 .1) (at k) (k .before .loop .inv) (more k)
+    (r .incremental-rate .result) (rd (m .max .result)) (x .step-price .result) (rd (p .max2 .result)) (rd (e .end-of .result)) (natOf (kept (wide e) tt .code)) (c .whole .result)
+    (rate-is r) (rate-in (m .before)) (largest-is m) (width-is e)
+    (x .step-price .ensures ∙ ap (λ (z : ℤ). withAdder (costs k) (rd (m .max .result)) z (natOf (kept (wide e) tt .code))) (rate-read r))
     (came (p .max2 .result) (p .max2 .ok) ∙ p .max2 .ensures ∙ ap (maxZ (toZ w64 (k .before .loop .price))) (came (x .step-price .result) (x .step-price .ok)))
-    (c .whole .ensures ∙ ap natOf (held (mw-size (mwAt (costs k) (at k + 1)) (mw-next k)) tt .same))
+    (c .whole .ensures ∙ ap natOf (end-read e ∙ end-is e)) (end-read e ∙ end-is e)
 
 whole-requires-2 : tie.Need-whole-requires-2 Inv-loop μ-loop
 whole-requires-2 c κs = search needs
@@ -198,15 +309,16 @@ whole-requires-2 c κs = search needs
 returns-2 : tie.Need-returns-2 Inv-loop μ-loop
 returns-2 c =
     let l = c .before .before in
-    let s = l .before .before .before .before in
+    let n = l .before .before .before .before in
+    let s = n .before .before .before .before .before in
     let d = s .args .t1 in
-    let i = l .before .loop .i in
+    let t = l .before .loop .t in
     let inv = l .before .loop .inv in
-    let first = mw-in d (s .pre .1 .0) 0 (omega (arith, count-in s)) in
-    rw (rates-good d (s .pre .0) (s .pre .1 .0) (s .pre .1 .1 .1) i inv (l .loop-test .left)) (
+    let last : stepCount d ≤ t = subst (λ (x : ℕ). x ≤ t) (count-is n) (l .loop-test .left) in
+    rw (rates-good d (s .pre .0) (s .pre .1 .0) (s .pre .1 .1 .1) t inv last) (
       refl,
-      curve-is d (s .pre .0) (s .pre .1 .0) (s .pre .1 .1 .1) i inv (l .loop-test .left) (c .whole2 .result)
-          (c .whole2 .ensures ∙ ap natOf (held (mw-size (mwAt d 0) first) tt .same)),
+      ap (λ (x : ℕ). record { start = c .whole2 .result; count = x; steps = l .before .loop .steps }) (count-is n)
+          ∙ curve-is d (s .pre .0) (s .pre .1 .0) (s .pre .1 .1 .1) t inv last (c .whole2 .result) (c .whole2 .ensures ∙ ap natOf (first-read s)),
     )
 
 pub stepped-spec : {M : Type 1} → statement M
@@ -215,15 +327,22 @@ stepped-spec =
     (tie.spec
     Inv-loop
     μ-loop
-    sub-count
+    sub-segments
     mul-top
     element-copy-out-top
+    mark-of-requires
+    split-at-requires
+    steps-of-requires
     element-copy-out-first
     sub-largest
     loop-holds
+    segment-of-requires
+    mul-from
+    element-copy-out-from
     add-to
     mul-to
     element-copy-out-to
+    end-of-requires
     incremental-rate-requires
     sub-within
     within-requires
@@ -236,7 +355,7 @@ stepped-spec =
     whole-requires
     mul-steps
     array-set-from-steps
-    add-i
+    add-t
     loop-less
     loop-again
     whole-requires-2
