@@ -15,6 +15,7 @@ use Rattle.rules_number.specs.Over.{listed, padded}
 use Rattle.rules_number.proofs.Kit.{rd, came, negsuc-fits}
 use Rattle.rules_number.proofs.Meant.{Meant, fits, kept, bits, _⊖_, held}
 use Rattle.rules_number.proofs.OrderLaws.{max-least}
+use Rattle.rules_curve.specs.Curves.{mostSteps}
 use Rattle.rules_cost.specs.Costs.{mostPoints, pointAt, mwAt, pmax, segmentCount, mark, splitAt, stepCount, segmentAt, endAt, widthAt, incrementalRate, rateAt, withAdder, mwInRange, rateInRange}
 use Rattle.rules_cost.proofs.RangeLaws.{mw-size, few, mw-in, heat-in}
 use Rattle.rules_cost.proofs.SplitLaws.{segment-among}
@@ -270,7 +271,7 @@ whole-requires : tie.Need-whole-requires Inv-loop μ-loop
 whole-requires c κs = search needs
 
 -- the step stored has its place
-placed : (c : tie.After-whole Inv-loop μ-loop) → at (c .before .before .before .before .before .before .before .before .before .before .before .before .before) < 11
+placed : (c : tie.After-whole Inv-loop μ-loop) → at (c .before .before .before .before .before .before .before .before .before .before .before .before .before) < mostSteps
 placed c =
     let k = c .before .before .before .before .before .before .before .before .before .before .before .before .before in
     omega (arith, more k, eleven-suffice (costs k) (count-in (start k) .1))
