@@ -44,6 +44,10 @@ extern "C" {
 /* How many numbers the charges of noskjerf_default are. */
 #define NOSKJERF_CHARGES 7
 
+/* The markets of a book of gas prices. */
+#define NOSKJERF_DAY_AHEAD 0
+#define NOSKJERF_REAL_TIME 1
+
 /* How many bytes a page lent to noskjerf_run or noskjerf_told has to have. */
 size_t noskjerf_room(void);
 
@@ -107,6 +111,31 @@ uint64_t noskjerf_bid(uint64_t month, int64_t start, size_t count, const int64_t
  */
 int64_t noskjerf_default(size_t count, const int64_t *points, size_t points_len, const int64_t *charges, size_t charges_len,
                          uint64_t *edges, size_t edges_len, int64_t *prices, size_t prices_len);
+
+/*
+ * Looks up a book of published gas prices: the run of entries up to a trading day, that day included.
+ *
+ * A book has a list for the day-ahead market and one for real time. Each holds the day and the price of its entries in turn, the days
+ * strictly rising, the prices in 0.0001 dollar per MMBtu. `market` is NOSKJERF_DAY_AHEAD or NOSKJERF_REAL_TIME and chooses the list; the
+ * answer never depends on the other one.
+ *
+ * Answers how many numbers of the chosen list are its run, which starts at the list's first number; nothing is copied. The last of them
+ * is the price in use, so that an unpublished day takes the latest before it. Answers 0 for refusal 21:
+ *   the chosen list ends inside a pair, its days do not rise somewhere in it, later days included, or no entry is up to that day;
+ *   or the market is another number.
+ */
+size_t noskjerf_gas_run(const uint32_t *day_ahead, size_t day_ahead_len, const uint32_t *real_time, size_t real_time_len, uint32_t market,
+                        uint32_t day);
+
+/*
+ * Works out a default energy bid as noskjerf_default does, with the book's price in use for the gas price; charges[0] is not read.
+ *
+ * Answers as noskjerf_default, and 21 where noskjerf_gas_run answers 0. -1 comes first, then 21, then 4 to 8; a refusal and -1 leave
+ * the buffers as they were.
+ */
+int64_t noskjerf_gas_default(const uint32_t *day_ahead, size_t day_ahead_len, const uint32_t *real_time, size_t real_time_len,
+                             uint32_t market, uint32_t day, size_t count, const int64_t *points, size_t points_len, const int64_t *charges,
+                             size_t charges_len, uint64_t *edges, size_t edges_len, int64_t *prices, size_t prices_len);
 
 #ifdef __cplusplus
 }

@@ -1,7 +1,10 @@
 //! Runs generated texts through the engine's static library and through the independent implementation, and compares what they print, byte
-//! for byte: `compare [TEXTS] [FIRST SEED]`.
+//! for byte; then as many books of gas prices, and compares what they answer in both markets: `compare [TEXTS] [FIRST SEED]`.
 //!
-//! A seed gives the same text each time. A text on which the two differ is shrunk and saved in `failures/`, beside both outputs.
+//! A seed gives the same text and the same book each time. A text on which the two differ is shrunk and saved in `failures/`, beside both
+//! outputs; a book is shown with both answers.
+
+mod books;
 
 use independent::compare::shrink;
 use independent::generate;
@@ -63,13 +66,18 @@ fn compare(seeds: impl Iterator<Item = u64>) -> usize {
 fn main() -> ExitCode {
     let texts = argument(1, 30_000);
     let first = argument(2, 0);
-    let share = move |thread: u64| compare((first..first + texts).filter(move |seed| seed % THREADS == thread));
+    let share = move |thread: u64| {
+        let seeds = (first..first + texts).filter(move |seed| seed % THREADS == thread);
+        [compare(seeds.clone()), books::compare(seeds)]
+    };
     let threads: Vec<_> = (0..THREADS)
         .map(|thread| thread::Builder::new().stack_size(STACK).spawn(move || share(thread)).expect("a thread"))
         .collect();
-    let found: usize = threads.into_iter().map(|thread| thread.join().expect("no panic")).sum();
+    let shares: Vec<[usize; 2]> = threads.into_iter().map(|thread| thread.join().expect("no panic")).collect();
+    let [found, in_books] = [0, 1].map(|kind| shares.iter().map(|share| share[kind]).sum::<usize>());
     println!("compare: {texts} texts, {found} differ");
-    if found == 0 {
+    println!("compare: {texts} books in both markets, {in_books} differ");
+    if found + in_books == 0 {
         ExitCode::SUCCESS
     } else {
         ExitCode::FAILURE

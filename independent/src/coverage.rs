@@ -1,5 +1,7 @@
 //! What a range of seeds reaches.
 
+pub mod books;
+
 use crate::curve::Curve;
 use crate::generate;
 use crate::hour::{component, Resource};

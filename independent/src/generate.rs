@@ -1,7 +1,8 @@
 //! Texts by seed: hours within the limits, values at and past the limits, damaged texts, counts
 //! over the room, texts at the size limit. Equal seeds give equal texts; the class of a text is
-//! its seed's remainder by 64.
+//! its seed's remainder by 64. Beside them, books of gas prices by seed.
 
+pub mod books;
 mod damage;
 mod hours;
 mod limits;

@@ -4,6 +4,7 @@ pub mod compare;
 pub mod costs;
 pub mod coverage;
 pub mod curve;
+pub mod gas;
 pub mod generate;
 pub mod hour;
 pub mod numbers;

@@ -51,6 +51,41 @@ mod judgements {
             prices: *mut i64,
             prices_len: usize,
         ) -> i64;
+
+        fn noskjerf_gas_run(
+            day_ahead: *const u32,
+            day_ahead_len: usize,
+            real_time: *const u32,
+            real_time_len: usize,
+            market: u32,
+            day: u32,
+        ) -> usize;
+
+        fn noskjerf_gas_default(
+            day_ahead: *const u32,
+            day_ahead_len: usize,
+            real_time: *const u32,
+            real_time_len: usize,
+            market: u32,
+            day: u32,
+            count: usize,
+            points: *const i64,
+            points_len: usize,
+            charges: *const i64,
+            charges_len: usize,
+            edges: *mut u64,
+            edges_len: usize,
+            prices: *mut i64,
+            prices_len: usize,
+        ) -> i64;
+    }
+
+    /// A book of gas prices, and the market and the trading day that it is asked for.
+    pub struct Asked<'a> {
+        pub day_ahead: &'a [u32],
+        pub real_time: &'a [u32],
+        pub market: u32,
+        pub day: u32,
     }
 
     /// The refusal of a bid whose steps hold end and price in turn, or 0.
@@ -76,7 +111,53 @@ mod judgements {
             )
         }
     }
+
+    /// How many numbers of the market's list are its run, or 0.
+    pub fn gas_run(asked: &Asked<'_>) -> usize {
+        // SAFETY: each pointer comes with the length of its slice
+        unsafe {
+            noskjerf_gas_run(
+                asked.day_ahead.as_ptr(),
+                asked.day_ahead.len(),
+                asked.real_time.as_ptr(),
+                asked.real_time.len(),
+                asked.market,
+                asked.day,
+            )
+        }
+    }
+
+    /// As `default`, with the book's price for the gas price; the refusal may be that of the book.
+    pub fn gas_default(
+        asked: &Asked<'_>,
+        count: usize,
+        points: &[i64],
+        charges: &[i64; 7],
+        edges: &mut [u64; EDGES],
+        prices: &mut [i64; PRICES],
+    ) -> i64 {
+        // SAFETY: each pointer comes with the length of its slice
+        unsafe {
+            noskjerf_gas_default(
+                asked.day_ahead.as_ptr(),
+                asked.day_ahead.len(),
+                asked.real_time.as_ptr(),
+                asked.real_time.len(),
+                asked.market,
+                asked.day,
+                count,
+                points.as_ptr(),
+                points.len(),
+                charges.as_ptr(),
+                charges.len(),
+                edges.as_mut_ptr(),
+                edges.len(),
+                prices.as_mut_ptr(),
+                prices.len(),
+            )
+        }
+    }
 }
 
 #[cfg(feature = "judgements")]
-pub use judgements::{bid, default, EDGES, PRICES};
+pub use judgements::{bid, default, gas_default, gas_run, Asked, EDGES, PRICES};

@@ -4,7 +4,7 @@ use crate::{ffi, refusal::reason, Step};
 use std::error::Error;
 use std::fmt;
 
-/// Why a bid or costs were refused: the number of the reason, 1 to 8.
+/// Why a bid, costs or a book of gas prices were refused: the number of the reason, 1 to 8 or 21.
 #[derive(Clone, Copy, Debug, PartialEq, Eq, Hash)]
 pub struct Refused {
     /// The number of the reason.
@@ -71,6 +71,22 @@ pub struct Charges {
     pub fee: i64,
 }
 
+impl Charges {
+    /// The charges in the engine's order.
+    pub(crate) fn in_order(&self) -> [i64; 7] {
+        let Charges {
+            gas,
+            rate,
+            allowance,
+            om,
+            msc,
+            soc,
+            fee,
+        } = *self;
+        [gas, rate, allowance, om, msc, soc, fee]
+    }
+}
+
 /// A default energy bid.
 #[derive(Clone, Debug, PartialEq, Eq)]
 pub struct DefaultCurve {
@@ -99,20 +115,20 @@ pub struct DefaultCurve {
 /// # Ok::<(), noskjerf::judgement::Refused>(())
 /// ```
 pub fn default_curve(points: &[Point], charges: &Charges) -> Result<DefaultCurve, Refused> {
-    let numbers: Vec<i64> = points.iter().flat_map(|point| [point.mw, point.heat]).collect();
-    let Charges {
-        gas,
-        rate,
-        allowance,
-        om,
-        msc,
-        soc,
-        fee,
-    } = *charges;
-    let charges = [gas, rate, allowance, om, msc, soc, fee];
+    let numbers = in_turn(points);
+    worked_out(|edges, prices| ffi::default(points.len(), &numbers, &charges.in_order(), edges, prices))
+}
+
+/// The points as the engine takes them: mw and heat in turn.
+pub(crate) fn in_turn(points: &[Point]) -> Vec<i64> {
+    points.iter().flat_map(|point| [point.mw, point.heat]).collect()
+}
+
+/// The curve that the engine puts into the buffers it is lent, or its refusal.
+pub(crate) fn worked_out(engine: impl FnOnce(&mut [u64; ffi::EDGES], &mut [i64; ffi::PRICES]) -> i64) -> Result<DefaultCurve, Refused> {
     let mut edges = [0; ffi::EDGES];
     let mut prices = [0; ffi::PRICES];
-    let answer = ffi::default(points.len(), &numbers, &charges, &mut edges, &mut prices);
+    let answer = engine(&mut edges, &mut prices);
     refused_or_not(u64::try_from(answer).expect("the buffers have the room that the engine asks for"))?;
     Ok(curve(&edges, &prices))
 }

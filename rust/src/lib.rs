@@ -45,7 +45,8 @@
 //! assert_eq!(prices, [300000, 378402, 444403, 488402]);
 //! ```
 //!
-//! [`Hour`] drives an hour interval by interval, and [`judgement`] judges one bid or works out one default energy bid.
+//! [`Hour`] drives an hour interval by interval, [`judgement`] judges one bid or works out one default energy bid, and [`gas`] takes the gas
+//! price for it from a book of published prices.
 //!
 //! # Building
 //!
@@ -67,6 +68,8 @@
 
 #[allow(unsafe_code)]
 mod ffi;
+#[cfg(feature = "judgements")]
+pub mod gas;
 mod hour;
 #[cfg(feature = "judgements")]
 pub mod judgement;

@@ -64,6 +64,7 @@ pub(crate) fn reason(number: u8) -> &'static str {
         18 => "the text has more than 65,536 bytes",
         19 => "no interval is accepted yet, or three passes are accepted since the last",
         20 => "fewer than four intervals are accepted",
+        21 => "the market's list of gas prices ends inside a pair, its days do not rise, or it has no entry up to the trading day",
         _ => "no such refusal is known",
     }
 }
@@ -75,9 +76,9 @@ mod tests {
 
     #[test]
     fn every_number_has_a_sentence_of_its_own() {
-        let sentences: BTreeSet<&str> = (0..=20).map(reason).collect();
-        assert_eq!(sentences.len(), 21);
-        assert_eq!(reason(0), reason(21));
+        let sentences: BTreeSet<&str> = (0..=21).map(reason).collect();
+        assert_eq!(sentences.len(), 22);
+        assert_eq!(reason(0), reason(22));
     }
 
     #[test]

@@ -1,53 +1,15 @@
 // The engine for programs in other languages: functions on numbers and slices under C names. The contracts cite the definitions of rules_library.
-use rules_curve::Curve;
-use rules_curve::Outcome;
 use rules_curve::RawCurve;
 use rules_run::Ran;
 ghost use mathlib.Core.Path.{_≡_};
-ghost use Prim.Native.Nat.{_≤_};
-ghost use lib.ListN.{length};
-ghost use lib.Seq.{sets};
 ghost use Rattle.rules_curve.specs.Curves.{bidRefusal};
 ghost use Rattle.rules_run.specs.Run.{output, endOf, ranWithin, ranTo, runRoom};
 ghost use Rattle.rules_library.specs.Answers.{ranNumber, toldAnswer, toldPage, toldAfter};
-ghost use Rattle.rules_library.specs.Slices.{edgeCount, priceCount, rawBid, costsIn, defaultAnswer, edgesAfter, pricesAfter, edgesOf, pricesOf};
-
-// How many numbers the slices lent to noskjerf_default have to have: the number of steps, the start and the ends of a curve, and its prices.
-const EDGES: usize = Curve::MAX_STEPS + 2;
-
-const PRICES: usize = Curve::MAX_STEPS;
+ghost use Rattle.rules_library.specs.Gas.{listBy, runCount, gasAnswer, gasEdges, gasPrices};
+ghost use Rattle.rules_library.specs.Slices.{rawBid, costsIn, defaultAnswer, edgesAfter, pricesAfter};
 
 // How many numbers the slice lent to noskjerf_told has to have: the number of a refusal and its line.
 const TOLD: usize = 2;
-
-// Puts the number of steps, the start and the ends of a curve at the front of a slice.
-fn put_edges(curve: Curve, edges: &mut [u64])
-    requires { ⌜ edgeCount ≤ length (now edges) ⌝ }
-    ensures { λ r. ⌜ now (edges .exit) ≡ sets (now (edges .entry)) 0 (edgesOf curve) ⌝ }
-{
-    edges[0] = curve.count as u64;
-    edges[1] = curve.start;
-    let mut i: usize = 0;
-    while i < Curve::MAX_STEPS {
-        let s = curve.steps[i];
-        edges[2 + i] = s.end;
-        i += 1;
-    }
-}
-
-// Puts the prices of a curve at the front of a slice.
-fn put_prices(curve: Curve, prices: &mut [i64])
-    requires { ⌜ priceCount ≤ length (now prices) ⌝ }
-    ensures { λ r. ⌜ now (prices .exit) ≡ sets (now (prices .entry)) 0 (pricesOf curve) ⌝ }
-{
-    let mut i: usize = 0;
-    while i < Curve::MAX_STEPS {
-        let s = curve.steps[i];
-        let price = s.price;
-        prices[i] = price;
-        i += 1;
-    }
-}
 
 // How many bytes a page lent to noskjerf_run or noskjerf_told has to have.
 #[no_mangle]
@@ -120,20 +82,45 @@ pub extern "C" fn noskjerf_default(
     ensures edges { λ r. ⌜ now (edges .exit) ≡ edgesAfter (now (edges .entry)) (now (prices .entry)) (costsIn count (now (points .entry)) (now (charges .entry))) ⌝ }
     ensures prices { λ r. ⌜ now (prices .exit) ≡ pricesAfter (now (edges .entry)) (now (prices .entry)) (costsIn count (now (points .entry)) (now (charges .entry))) ⌝ }
 {
-    if edges.len() < EDGES {
-        return -1;
-    }
-    if prices.len() < PRICES {
-        return -1;
-    }
+    let checked = cost::default_curve(slices::costs_in(count, points, charges));
+    put_slices::put_checked(checked, edges, prices)
+}
+
+// How many numbers of a book's list, that of the day-ahead market for 0 and that of real time for 1, are its run up to a trading day: they stand at the front of the
+// list, and the last of them is the price in use. 0 means 21, and is the answer for any other market.
+#[no_mangle]
+pub extern "C" fn noskjerf_gas_run<'a>(
+    day_ahead: &'a [u32],
+    real_time: &'a [u32],
+    market: u32,
+    day: u32,
+) -> usize
+    ensures { λ r. ⌜ r ≡ runCount market day (now («day_ahead» .entry)) (now («real_time» .entry)) ⌝ }
+{
+    let list = slices::list_of(day_ahead, real_time, market);
+    let run = gas_book::run_in(list, day);
+    run.len()
+}
+
+// The default energy bid from costs at the gas price that a book has in use: as noskjerf_default, but that the first of the charges counts for nothing, and that 21,
+// for any market but 0 and 1 too, comes before the refusals of costs.
+#[no_mangle]
+pub extern "C" fn noskjerf_gas_default<'a>(
+    day_ahead: &'a [u32],
+    real_time: &'a [u32],
+    market: u32,
+    day: u32,
+    count: usize,
+    points: &[i64],
+    charges: &[i64],
+    edges: &mut [u64],
+    prices: &mut [i64],
+) -> i64
+    ensures answer { λ r. ⌜ r ≡ gasAnswer (now (edges .entry)) (now (prices .entry)) day (listBy market (now («day_ahead» .entry)) (now («real_time» .entry))) (costsIn count (now (points .entry)) (now (charges .entry))) ⌝ }
+    ensures edges { λ r. ⌜ now (edges .exit) ≡ gasEdges (now (edges .entry)) (now (prices .entry)) day (listBy market (now («day_ahead» .entry)) (now («real_time» .entry))) (costsIn count (now (points .entry)) (now (charges .entry))) ⌝ }
+    ensures prices { λ r. ⌜ now (prices .exit) ≡ gasPrices (now (edges .entry)) (now (prices .entry)) day (listBy market (now («day_ahead» .entry)) (now («real_time» .entry))) (costsIn count (now (points .entry)) (now (charges .entry))) ⌝ }
+{
+    let list = slices::list_of(day_ahead, real_time, market);
     let costs = slices::costs_in(count, points, charges);
-    let checked = cost::default_curve(costs);
-    let outcome = checked.outcome;
-    if let Outcome::Refused(refusal) = outcome {
-        return curve::refusal_number(refusal) as i64;
-    }
-    let curve = checked.curve;
-    put_edges(curve, edges);
-    put_prices(curve, prices);
-    0
+    put_slices::put_checked(gas_default::default_on(costs, list, day), edges, prices)
 }

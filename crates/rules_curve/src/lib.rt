@@ -54,6 +54,7 @@ pub enum Refusal {
     Length,
     PassTurn,
     HourOpen,
+    GasBook,
 }
 
 pub enum Outcome {

@@ -1,4 +1,5 @@
 -- What the definitions mean, their laws, and worked cases.
 pub mod Meaning
 pub mod Examples
+pub mod GasLaws
 pub mod SliceLaws

@@ -1,6 +1,6 @@
 -- What noskjerf_default writes: 13 edges and 11 prices, where the costs are accepted, and nothing past them; what a run answers and tells. Assumes nothing.
 use Prim.Native.Nat.{ℕ, zero, suc, _+_, _≤_, _<_}
-use mathlib.Core.Path.{_≡_, refl, ap, _∙_}
+use mathlib.Core.Path.{_≡_, refl, sym, ap, _∙_}
 use mathlib.Core.Bool.{Bool, true, false, cond, _&&_}
 use mathlib.Core.List.{List, [], _∷_}
 use native.Mathlib.Omega.{arith}
@@ -11,64 +11,83 @@ use lib.ListN.{length, getD, set, length-map, length-set}
 use lib.Seq.{sets, length-sets, getD-set-same, getD-set-other}
 use Rattle.rules_number.specs.Over.{listed}
 use Rattle.rules_number.proofs.OverLaws.{both, listed-length, padded-length}
-use Rattle.rules_curve.specs.Curves.{mostSteps, blankStep}
+use Rattle.rules_curve.specs.Curves.{mostSteps, blankStep, blankCurve, unlessRefused}
+use Rattle.rules_curve.specs.declared.Curve.{Curve}
 use Rattle.rules_curve.proofs.CheckLaws.{then-both, unless-holds}
 use Rattle.rules_cost.specs.Costs.{mostPoints, stepCount, costStep, costCurve, pointsGood, costRefusal}
 use Rattle.rules_cost.specs.declared.Costs.{Costs}
 use Rattle.rules_run.specs.Run.{Ended, runRoom, ranWithin, ranTo}
 use Rattle.rules_cost.proofs.EdgeLaws.{eleven-suffice}
 use Rattle.rules_library.specs.Answers.{ranNumber, toldRoom, toldAnswer, toldPage, toldAfter}
-use Rattle.rules_library.specs.Slices.{edgeCount, priceCount, edgesOf, pricesOf, hasRoom, defaultAnswer, ifWritten, edgesAfter, pricesAfter}
+use Rattle.rules_library.specs.Slices.{edgeCount, priceCount, edgesOf, pricesOf, hasRoom, answerOf, ifWritten, edgesWith, pricesWith, edgesAfter, pricesAfter}
 
-module _ (c : Costs) (z : costRefusal c ≡ 0) where
-  few-steps : stepCount c ≤ mostSteps
-  unfolding costRefusal
-  few-steps =
-      let p = unless-holds (pointsGood c) 3 (then-both _ _ (then-both _ _ (then-both _ _ (then-both _ _ z .0) .0) .0) .0) in
-      eleven-suffice c (leb-true (c .count) mostPoints (both (leb 2 (c .count)) (leb (c .count) mostPoints) p .1))
-
-  all-steps : length (costCurve c .steps) ≡ mostSteps
-  unfolding costCurve
-  all-steps = padded-length mostSteps blankStep (listed (costStep c) (stepCount c)) (omega (arith, few-steps, listed-length (costStep c) (stepCount c)))
-
-  pub edges-size : length (edgesOf (costCurve c)) ≡ edgeCount
-  edges-size = simp length-map (omega (arith, all-steps))
-
-  pub prices-size : length (pricesOf (costCurve c)) ≡ priceCount
-  prices-size = simp length-map all-steps
+-- the steps of a curve from accepted costs
+pub all-steps : (c : Costs) → costRefusal c ≡ 0 → length (costCurve c .steps) ≡ mostSteps
+unfolding costCurve costRefusal
+all-steps c z =
+    let p = unless-holds (pointsGood c) 3 (then-both _ _ (then-both _ _ (then-both _ _ (then-both _ _ z .0) .0) .0) .0) in
+    let few = eleven-suffice c (leb-true (c .count) mostPoints (both (leb 2 (c .count)) (leb (c .count) mostPoints) p .1)) in
+    padded-length mostSteps blankStep (listed (costStep c) (stepCount c)) (omega (arith, few, listed-length (costStep c) (stepCount c)))
 
 -- a cell past a run of stores
 past : {A : Type 0} (d : A) (l : List A) (i : ℕ) (a : List A) (k : ℕ) → i + length a ≤ k → getD (sets l i a) k d ≡ getD l k d
 past d l i [] k h = refl
 past d l i (x ∷ a) k h = past d (set l i x) (suc i) a k (omega arith) ∙ getD-set-other l i k x d (λ e. omega arith)
 
-module _ (edges : List ℕ) (prices : List ℤ) (c : Costs) where
-  -- the answer is 0 only where the costs are accepted
-  pub zero-accepted : defaultAnswer edges prices c ≡ pos 0 → costRefusal c ≡ 0
-  unfolding defaultAnswer
+-- the slices after a curve with the number of its refusal
+module _ (edges : List ℕ) (prices : List ℤ) (n : ℕ) (curve : Curve) where
+  -- the answer is 0 only where nothing is refused
+  pub zero-accepted : answerOf edges prices n ≡ pos 0 → n ≡ 0
   zero-accepted = go (hasRoom edges prices)
     where
-      go : (b : Bool) → cond b (pos (costRefusal c)) (negsuc 0) ≡ pos 0 → costRefusal c ≡ 0
+      go : (b : Bool) → cond b (pos n) (negsuc 0) ≡ pos 0 → n ≡ 0
       go true e = cc
       go false e = absurd (let o : _≡_ {A = ℕ} 0 1 = cc in omega arith)
 
   -- what the written slice and the one before it have in common
-  either : {A : Type 0} (d : A) (k : ℕ) (written before : List A) → (costRefusal c ≡ 0 → getD written k d ≡ getD before k d)
-      → getD (ifWritten (defaultAnswer edges prices c) written before) k d ≡ getD before k d
-  either {A} d k written before h = go (defaultAnswer edges prices c) refl
+  either : {A : Type 0} (d : A) (k : ℕ) (written before : List A) → (n ≡ 0 → getD written k d ≡ getD before k d)
+      → getD (ifWritten (answerOf edges prices n) written before) k d ≡ getD before k d
+  either {A} d k written before h = go (answerOf edges prices n) refl
     where
-      go : (r : ℤ) → defaultAnswer edges prices c ≡ r → getD (ifWritten r written before) k d ≡ getD before k d
+      go : (r : ℤ) → answerOf edges prices n ≡ r → getD (ifWritten r written before) k d ≡ getD before k d
       go (pos zero) e = h (zero-accepted e)
-      go (pos (suc n)) e = refl
-      go (negsuc n) e = refl
+      go (pos (suc m)) e = refl
+      go (negsuc m) e = refl
 
-  pub edges-past : (k : ℕ) → edgeCount ≤ k → getD (edgesAfter edges prices c) k 0 ≡ getD edges k 0
-  unfolding edgesAfter
-  edges-past k h = either 0 k (sets edges 0 (edgesOf (costCurve c))) edges (λ z. past 0 edges 0 (edgesOf (costCurve c)) k (omega (arith, edges-size c z)))
+  module _ (whole : n ≡ 0 → length (curve .steps) ≡ mostSteps) where
+    pub edges-past : (k : ℕ) → edgeCount ≤ k → getD (edgesWith edges prices n curve) k 0 ≡ getD edges k 0
+    unfolding edgesWith
+    edges-past k h = either 0 k (sets edges 0 (edgesOf curve)) edges (λ z. let w = whole z in past 0 edges 0 (edgesOf curve) k (simp length-map (omega arith)))
 
-  pub prices-past : (k : ℕ) → priceCount ≤ k → getD (pricesAfter edges prices c) k (pos 0) ≡ getD prices k (pos 0)
-  unfolding pricesAfter
-  prices-past k h = either (pos 0) k (sets prices 0 (pricesOf (costCurve c))) prices (λ z. past (pos 0) prices 0 (pricesOf (costCurve c)) k (omega (arith, prices-size c z)))
+    pub prices-past : (k : ℕ) → priceCount ≤ k → getD (pricesWith edges prices n curve) k (pos 0) ≡ getD prices k (pos 0)
+    unfolding pricesWith
+    prices-past k h = either (pos 0) k (sets prices 0 (pricesOf curve)) prices (λ z. let w = whole z in past (pos 0) prices 0 (pricesOf curve) k (simp length-map (omega arith)))
+
+  -- a refusal leaves both as they were, and the curve that it hands back counts for nothing
+  pub refused-kept : (m : ℕ) → n ≡ suc m → (edgesWith edges prices n curve ≡ edges) × (pricesWith edges prices n curve ≡ prices)
+  unfolding edgesWith pricesWith
+  refused-kept m e = rw e (go (hasRoom edges prices))
+    where
+      go : (b : Bool)
+          → (ifWritten (cond b (pos (suc m)) (negsuc 0)) (sets edges 0 (edgesOf curve)) edges ≡ edges)
+          × (ifWritten (cond b (pos (suc m)) (negsuc 0)) (sets prices 0 (pricesOf curve)) prices ≡ prices)
+      go true = (refl, refl)
+      go false = (refl, refl)
+
+-- the curve that a check hands back serves as well as the one that it is where nothing is refused
+pub unless-written : (edges : List ℕ) (prices : List ℤ) (n : ℕ) (curve : Curve)
+    → (edgesWith edges prices n (unlessRefused n curve) ≡ edgesWith edges prices n curve) × (pricesWith edges prices n (unlessRefused n curve) ≡ pricesWith edges prices n curve)
+unless-written edges prices zero curve = (refl, refl)
+unless-written edges prices (suc n) curve =
+    let a = refused-kept edges prices (suc n) blankCurve n refl in
+    let b = refused-kept edges prices (suc n) curve n refl in
+    (a .0 ∙ sym (b .0), a .1 ∙ sym (b .1))
+
+-- nothing past 13 edges and 11 prices is written by the default curve from costs
+pub default-past : (edges : List ℕ) (prices : List ℤ) (c : Costs)
+    → ((k : ℕ) → edgeCount ≤ k → getD (edgesAfter edges prices c) k 0 ≡ getD edges k 0) × ((k : ℕ) → priceCount ≤ k → getD (pricesAfter edges prices c) k (pos 0) ≡ getD prices k (pos 0))
+default-past edges prices c =
+    (edges-past edges prices (costRefusal c) (costCurve c) (all-steps c), prices-past edges prices (costRefusal c) (costCurve c) (all-steps c))
 
 -- ---- a run's answer: how many bytes were printed, or -1 where the page is too small
 module _ (page printed : List ℕ) (e : Ended) where

@@ -75,8 +75,8 @@ abbrev pub hasRoom : List ℕ → List ℤ → Bool
 hasRoom edges prices = leb edgeCount (length edges) && leb priceCount (length prices)
 
 -- the answer: the number of the refusal, 0 where there is none, or -1 where the room is too small
-unfoldable pub defaultAnswer : List ℕ → List ℤ → Costs → ℤ
-defaultAnswer edges prices c = cond (hasRoom edges prices) (pos (costRefusal c)) (negsuc 0)
+abbrev pub answerOf : List ℕ → List ℤ → ℕ → ℤ
+answerOf edges prices n = cond (hasRoom edges prices) (pos n) (negsuc 0)
 
 -- a slice is written only where the answer is 0
 abbrev pub ifWritten : {A : Type 0} → ℤ → List A → List A → List A
@@ -84,9 +84,19 @@ ifWritten (pos zero) written before = written
 ifWritten (pos (suc n)) written before = before
 ifWritten (negsuc n) written before = before
 
--- the two slices afterwards
-unfoldable pub edgesAfter : List ℕ → List ℤ → Costs → List ℕ
-edgesAfter edges prices c = ifWritten (defaultAnswer edges prices c) (sets edges 0 (edgesOf (costCurve c))) edges
+-- the two slices after a curve with the number of its refusal
+unfoldable pub edgesWith : List ℕ → List ℤ → ℕ → Curve → List ℕ
+edgesWith edges prices n curve = ifWritten (answerOf edges prices n) (sets edges 0 (edgesOf curve)) edges
 
-unfoldable pub pricesAfter : List ℕ → List ℤ → Costs → List ℤ
-pricesAfter edges prices c = ifWritten (defaultAnswer edges prices c) (sets prices 0 (pricesOf (costCurve c))) prices
+unfoldable pub pricesWith : List ℕ → List ℤ → ℕ → Curve → List ℤ
+pricesWith edges prices n curve = ifWritten (answerOf edges prices n) (sets prices 0 (pricesOf curve)) prices
+
+-- the same of the default curve from costs
+abbrev pub defaultAnswer : List ℕ → List ℤ → Costs → ℤ
+defaultAnswer edges prices c = answerOf edges prices (costRefusal c)
+
+abbrev pub edgesAfter : List ℕ → List ℤ → Costs → List ℕ
+edgesAfter edges prices c = edgesWith edges prices (costRefusal c) (costCurve c)
+
+abbrev pub pricesAfter : List ℕ → List ℤ → Costs → List ℤ
+pricesAfter edges prices c = pricesWith edges prices (costRefusal c) (costCurve c)

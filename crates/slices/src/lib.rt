@@ -1,9 +1,10 @@
-// Steps and costs read from lent slices of numbers. The contracts cite the definitions of rules_library.
+// Steps, costs and a market's list of gas prices, read from lent slices of numbers. The contracts cite the definitions of rules_library.
 use rules_cost::Costs;
 use rules_cost::Point;
 use rules_curve::Curve;
 use rules_curve::RawStep;
 ghost use mathlib.Core.Path.{_≡_};
+ghost use Rattle.rules_library.specs.Gas.{listBy};
 ghost use Rattle.rules_library.specs.Slices.{cellAt, stepsIn, pointsIn, costsIn};
 
 // The number at an index, or 0 past the end.
@@ -57,5 +58,16 @@ pub fn costs_in(count: usize, points: &[i64], charges: &[i64]) -> Costs
         msc: cell_at(charges, 4),
         soc: cell_at(charges, 5),
         fee: cell_at(charges, 6),
+    }
+}
+
+// The list of a market's number: 0 is the day-ahead market and 1 real time, and any other has an empty one.
+pub fn list_of<'a>(day_ahead: &'a [u32], real_time: &'a [u32], market: u32) -> &'a [u32]
+    ensures { λ r. ⌜ now r ≡ listBy market (now («day_ahead» .entry)) (now («real_time» .entry)) ⌝ }
+{
+    match market {
+        0 => day_ahead,
+        1 => real_time,
+        _ => &day_ahead[..0],
     }
 }

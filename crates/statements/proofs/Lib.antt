@@ -16,6 +16,7 @@ pub mod Demand3
 pub mod Hours
 pub mod Passes
 pub mod HourBids
+pub mod GasBooks
 pub mod Runs
 pub mod Programs
 pub mod Missing

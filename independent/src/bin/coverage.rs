@@ -1,5 +1,6 @@
-//! Prints what the first N seeds reach: `coverage [N] [first seed]`.
+//! Prints what the first N seeds reach, of texts and of books: `coverage [N] [first seed]`.
 
+use independent::coverage::books::BookCoverage;
 use independent::coverage::Coverage;
 use std::process::ExitCode;
 use std::time::Instant;
@@ -73,13 +74,42 @@ fn print(coverage: &Coverage) {
     );
 }
 
+fn print_books(books: &BookCoverage) {
+    println!("books asked, both markets {}", books.asked);
+    println!("21 for a list inside a pair alone {}", books.inside_a_pair);
+    println!("21 for days that don't rise alone {}", books.not_rising);
+    println!("  with equal days {}", books.equal_days);
+    println!("  with falling days {}", books.falling_days);
+    println!("  past the trading day only {}", books.not_rising_later);
+    println!("21 for an empty run alone {}", books.empty);
+    println!("  of an empty list {}", books.empty_lists);
+    println!(
+        "21, the other list has a price {}",
+        books.only_other_has_price
+    );
+    println!("21, the costs are refused too {}", books.costs_refused_too);
+    println!("runs up to a published day {}", books.published);
+    println!("runs up to an unpublished day {}", books.unpublished);
+    println!("runs before later entries {}", books.later_entries);
+    println!("runs of all entries {}", books.whole_lists);
+    println!("runs that end with day 0 {}", books.first_day);
+    println!("runs that end with day 4294967295 {}", books.last_day);
+    println!("runs beside a broken list {}", books.other_broken);
+    println!("costs with the book's price accepted {}", books.refusals[0]);
+    print_list("costs refused", 4, &books.refusals[4..]);
+    println!("7 for the book's price alone {}", books.price_over_limit);
+    println!("accepted, own gas price outside {}", books.own_gas_unread);
+}
+
 fn main() -> ExitCode {
     let (count, first) = (argument(1, 20_000), argument(2, 0));
     let start = Instant::now();
     let coverage = Coverage::of(first..first + count);
     print(&coverage);
+    let books = BookCoverage::of(first..first + count);
+    print_books(&books);
     println!("seconds {:.1}", start.elapsed().as_secs_f64());
-    match coverage.all_reached() {
+    match coverage.all_reached() && books.all_reached() {
         true => ExitCode::SUCCESS,
         false => {
             println!("not all reached");

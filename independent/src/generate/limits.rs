@@ -29,7 +29,7 @@ fn range(names: &str, column: usize, portfolios: i128, month: i128) -> (i128, i1
 }
 
 /// A limit or its neighbour on either side; now and then a value far outside.
-fn around(rng: &mut Random, lowest: i128, highest: i128, present: i128) -> i128 {
+pub fn around(rng: &mut Random, lowest: i128, highest: i128, present: i128) -> i128 {
     let widths = [
         1 << 8,
         1 << 16,
@@ -153,7 +153,7 @@ fn bid_at_default_edge(rng: &mut Random, opening: &mut Part) {
 }
 
 /// Two points whose incremental heat rate is `wanted`, found by trying.
-fn points_of_heat_rate(rng: &mut Random, wanted: i128) -> Option<Vec<Point>> {
+pub fn points_of_heat_rate(rng: &mut Random, wanted: i128) -> Option<Vec<Point>> {
     for _ in 0..2000 {
         let m = rng.between(1, 12);
         let w = rng.between(1, 6);

@@ -1,4 +1,4 @@
--- `noskjerf::put_prices` meets its contract. Assumes nothing.
+-- `put_slices::put_prices` meets its contract. Assumes nothing.
 use Prim.Native.Nat.{_+_, _-_, _≤_}
 use mathlib.Core.Path.{_≡_, refl, _∙_}
 use mathlib.Core.List.{map}
@@ -10,8 +10,8 @@ use Rattle.rules_number.proofs.Kit.{rd, came}
 use Rattle.rules_curve.specs.Curves.{mostSteps, blankStep}
 use Rattle.rules_curve.specs.declared.Step.{Step}
 use Rattle.rules_library.proofs.SliceLaws.{put-next, put-done}
-use Rattle.noskjerf.proofs.put_prices.Statement.{statement}
-use Rattle.noskjerf.proofs.put_prices.Tie as tie
+use Rattle.put_slices.proofs.put_prices.Statement.{statement}
+use Rattle.put_slices.proofs.put_prices.Tie as tie
 
 abbrev Inv-loop : tie.InvT-loop
 Inv-loop prices₀ curve i₀ prices i = (i ≤ mostSteps) × (length prices ≡ length prices₀) × (sets prices i (map (λ s. s .price) (drop i (curve .steps))) ≡ sets prices₀ 0 (map (λ s. s .price) (curve .steps)))

@@ -1,4 +1,4 @@
--- `noskjerf::put_edges` meets its contract. Assumes nothing.
+-- `put_slices::put_edges` meets its contract. Assumes nothing.
 use Prim.Native.Nat.{_+_, _-_, _≤_}
 use mathlib.Core.List.{[], _∷_, map}
 use mathlib.Core.Path.{_≡_, refl, _∙_}
@@ -9,8 +9,8 @@ use lib.Seq.{sets, length-sets}
 use Rattle.rules_curve.specs.Curves.{mostSteps, blankStep}
 use Rattle.rules_curve.specs.declared.Step.{Step}
 use Rattle.rules_library.proofs.SliceLaws.{put-next, put-done}
-use Rattle.noskjerf.proofs.put_edges.Statement.{statement}
-use Rattle.noskjerf.proofs.put_edges.Tie as tie
+use Rattle.put_slices.proofs.put_edges.Statement.{statement}
+use Rattle.put_slices.proofs.put_edges.Tie as tie
 
 abbrev Inv-loop : tie.InvT-loop
 Inv-loop edges₀ curve i₀ edges i = (i ≤ mostSteps) × (length edges ≡ length edges₀) × (sets edges (2 + i) (map (λ s. s .end) (drop i (curve .steps))) ≡ sets edges₀ 2 (map (λ s. s .end) (curve .steps)))
