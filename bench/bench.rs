@@ -1,10 +1,13 @@
 //! bench DIR MODE [MS|cg]: MODE baseline (fast.rs), engine (the proved archive) or floor (a loop that looks at each byte).
+//! bench DIR same: whether baseline and engine print the same bytes for every DIR/*.txt; the status is 1 where they don't.
 //!
 //! Loads every DIR/*.txt, then runs 100 stretches of MS/100 ms over all of them and prints the least and the median per text and byte.
 //! cg: exactly 20 rounds, for callgrind with --toggle-collect='*one_round*'; prints the bytes read.
 #[path = "fast.rs"]
 mod fast;
 use std::hint::black_box;
+use std::path::PathBuf;
+use std::process::ExitCode;
 use std::time::Instant;
 
 const ROOM: usize = 655_424;
@@ -49,26 +52,54 @@ fn one_round(texts: &[Vec<u8>], mode: &str, out: &mut Vec<u8>, page: &mut [u8]) 
     bytes
 }
 
-fn texts_of(folder: &str) -> Vec<Vec<u8>> {
-    let mut names: Vec<_> = std::fs::read_dir(folder).unwrap().map(|entry| entry.unwrap().path()).collect();
+fn names_of(folder: &str) -> Vec<PathBuf> {
+    let all = std::fs::read_dir(folder).unwrap().map(|entry| entry.unwrap().path());
+    let mut names: Vec<_> = all.filter(|name| name.extension().is_some_and(|end| end == "txt")).collect();
     names.sort();
-    names.iter().map(|name| std::fs::read(name).unwrap()).collect()
+    names
 }
 
-fn main() {
+/// Whether baseline and engine print the same bytes for a text, in a store and on a page that other texts were printed with.
+fn is_same(text: &[u8], out: &mut Vec<u8>, page: &mut [u8]) -> bool {
+    out.clear();
+    fast::run(text, out);
+    let count = engine(text, page);
+    out[..] == page[..count]
+}
+
+/// Names the texts that differ; answers the exit status.
+fn same(folder: &str) -> ExitCode {
+    let (mut out, mut page) = (Vec::new(), vec![0; ROOM]);
+    let names = names_of(folder);
+    let differing = names.iter().filter(|name| !is_same(&std::fs::read(name).unwrap(), &mut out, &mut page));
+    let differ = differing.inspect(|name| println!("differs: {}", name.display())).count();
+    println!("{folder}: {} texts, {differ} differ", names.len());
+    ExitCode::from(u8::from(names.is_empty() || differ > 0))
+}
+
+fn main() -> ExitCode {
     let words: Vec<String> = std::env::args().collect();
     let (folder, mode) = (&words[1], &words[2]);
-    let texts = texts_of(folder);
+    if mode == "same" {
+        return same(folder);
+    }
+    measure(folder, mode, words.get(3).map(String::as_str));
+    ExitCode::SUCCESS
+}
+
+/// Prints what a text and a byte take; or, for callgrind, the bytes read.
+fn measure(folder: &str, mode: &str, how: Option<&str>) {
+    let texts: Vec<Vec<u8>> = names_of(folder).iter().map(|name| std::fs::read(name).unwrap()).collect();
     let bytes: usize = texts.iter().map(Vec::len).sum();
     let mut out = Vec::with_capacity(1 << 18);
     let mut page = vec![0; ROOM];
     let mut round = || black_box(one_round(&texts, mode, &mut out, &mut page));
-    if words.get(3).is_some_and(|word| word == "cg") {
+    if how == Some("cg") {
         (0..20).for_each(|_| { round(); });
         println!("{}", bytes * 20);
         return;
     }
-    let ms: u128 = words.get(3).map_or(150, |word| word.parse().unwrap());
+    let ms: u128 = how.map_or(150, |word| word.parse().unwrap());
     (0..3).for_each(|_| { round(); });
     let start = Instant::now();
     round();

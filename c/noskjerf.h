@@ -7,16 +7,16 @@
  *
  * What holds for every function here:
  * - It takes any numbers and any bytes. Whatever is wrong with them is answered, never left undefined.
- * - A pointer with a length stands for that many elements. It must not be null, not even where the length is 0, and buffers that are
- *   written must not overlap anything else that is passed.
- * - It keeps nothing between calls, allocates nothing and reads no files: any number of threads may call it at once. A call of
- *   noskjerf_run or noskjerf_told takes some 450 KB of stack; give a thread that calls it 1 MiB.
+ * - A pointer with a length stands for that many elements. Where the length is 0 nothing is read or written through it, so that it may be
+ *   null, as that of an empty std::vector; elsewhere it must not be. Buffers that are written must not overlap anything else that is passed.
+ * - It keeps nothing between calls, allocates nothing and reads no files: any number of threads may call it at once. A call takes
+ *   at most 450 KB of stack, one of an hour in numbers a third of it; give a thread that calls it 1 MiB.
  *
  * Units: quantities are hundredths of a MW, prices 0.0001 dollar per MWh, heat rates Btu/kWh.
  *
- * Link with libnoskjerf.a, which `rt staticlib noskjerf` writes to target/staticlib:
+ * Link with libnoskjerf.a, which `./archive` writes to target/lib:
  *
- *     gcc -Ic program.c target/staticlib/libnoskjerf.a
+ *     gcc -Ic program.c target/lib/libnoskjerf.a
  */
 #ifndef NOSKJERF_H
 #define NOSKJERF_H
@@ -34,6 +34,9 @@ extern "C" {
 /* How many bytes a text may have; a longer one is refused (18). */
 #define NOSKJERF_MAX_TEXT 65536
 
+/* How many bytes of stack a call takes at most. */
+#define NOSKJERF_STACK 450000
+
 /* How many numbers the last buffer of noskjerf_told has to have. */
 #define NOSKJERF_TOLD 2
 
@@ -43,6 +46,23 @@ extern "C" {
 
 /* How many numbers the charges of noskjerf_default are. */
 #define NOSKJERF_CHARGES 7
+
+/* How many numbers an hour is; what noskjerf_state_room answers. */
+#define NOSKJERF_STATE 3411
+
+/* How many numbers one resource of an opening is. */
+#define NOSKJERF_BLOCK 80
+
+/* How many numbers the verdicts of an interval are, and one of them. */
+#define NOSKJERF_VERDICTS 640
+#define NOSKJERF_VERDICT 20
+
+/* How many numbers the causes of noskjerf_why are, four of each resource. */
+#define NOSKJERF_CAUSES 256
+
+/* How many numbers the two buffers of an hour's curve have to have. */
+#define NOSKJERF_HOUR_EDGES 22
+#define NOSKJERF_HOUR_PRICES 20
 
 /* The markets of a book of gas prices. */
 #define NOSKJERF_DAY_AHEAD 0
@@ -80,7 +100,8 @@ int64_t noskjerf_told(const uint8_t *text, size_t text_len, uint8_t *page, size_
  * Judges a bid as it is submitted in a month since the rule took effect, which sets the highest price.
  *
  * The curve starts at `start` and has `count` steps. `steps` holds the end and the price of each step in turn, so 2 * count numbers;
- * those past its end count as 0, and those past the count are not looked at. The month is not judged: one that is 0 counts as month 1.
+ * those past its end count as 0, and those past the count are not looked at. The month is not judged: any is taken, 0 counts as month 1,
+ * and one above 1,200 as month 1,200.
  *
  * Answers 0 where the bid is accepted, else the lowest refusal that applies:
  *   1  the step count is outside 1 to 10
@@ -93,8 +114,11 @@ uint64_t noskjerf_bid(uint64_t month, int64_t start, size_t count, const int64_t
  * Works out the default energy bid of a resource from its costs.
  *
  * `points` holds the quantity (mw) and the average heat rate (heat) of each of `count` points in turn. `charges` holds gas, rate,
- * allowance, om, msc, soc and fee, in this order. The curve has a step between each two neighbouring points, and two where the 80% mark,
- * 4/5 of the last quantity rounded down, lies strictly between them.
+ * allowance, om, msc, soc and fee, in this order. Numbers past the end of either count as 0, so that points_len below 2 * count is refused
+ * and a charge that is left out costs nothing; points past the count and numbers past the seventh charge are not looked at.
+ *
+ * The curve has a step between each two neighbouring points, and two where the 80% mark, 4/5 of the last quantity rounded down, lies
+ * strictly between them.
  *
  * Answers 0 and fills the buffers:
  *   edges[0]                how many steps the curve has, 1 to 11
@@ -128,7 +152,7 @@ size_t noskjerf_gas_run(const uint32_t *day_ahead, size_t day_ahead_len, const u
                         uint32_t day);
 
 /*
- * Works out a default energy bid as noskjerf_default does, with the book's price in use for the gas price; charges[0] is not read.
+ * Works out a default energy bid as noskjerf_default does, with the book's price in use for the gas price; charges[0] counts for nothing.
  *
  * Answers as noskjerf_default, and 21 where noskjerf_gas_run answers 0. -1 comes first, then 21, then 4 to 8; a refusal and -1 leave
  * the buffers as they were.
@@ -136,6 +160,129 @@ size_t noskjerf_gas_run(const uint32_t *day_ahead, size_t day_ahead_len, const u
 int64_t noskjerf_gas_default(const uint32_t *day_ahead, size_t day_ahead_len, const uint32_t *real_time, size_t real_time_len,
                              uint32_t market, uint32_t day, size_t count, const int64_t *points, size_t points_len, const int64_t *charges,
                              size_t charges_len, uint64_t *edges, size_t edges_len, int64_t *prices, size_t prices_len);
+
+/* ---- An hour in numbers
+ *
+ * An hour is opened, takes intervals and five-minute passes, and is asked for its curves, without a text. It is NOSKJERF_STATE numbers in
+ * an array that the caller keeps: copy it to keep an hour as it stood, drop it to end it. noskjerf_open writes them, noskjerf_interval and
+ * noskjerf_pass change them, and the other calls read them. Three may be read by the caller:
+ *   state[0]    how many intervals are accepted
+ *   state[129]  how many passes are accepted since the last accepted interval
+ *   state[258]  how many resources the hour has
+ * Every content of a state has a meaning, also one that noskjerf_open never wrote: a call on it is answered like any other. Numbers past
+ * NOSKJERF_STATE are neither read nor written.
+ *
+ * Each call answers 0, the number of a refusal, or -1 where the state or a buffer to be filled is too short. -1 comes first. Where the answer
+ * isn't 0, the state and every buffer hold what they held, to the last number. Numbers past the end of an array that is only read count as 0,
+ * and those past a count are not looked at.
+ */
+
+/* How many numbers a state has to have. */
+size_t noskjerf_state_room(void);
+
+/*
+ * Opens an hour in a month since the rule took effect.
+ *
+ * `sellers` holds a number for each of 1 to 16 portfolios: 1 for a net seller, 0 for a net buyer. `blocks` holds NOSKJERF_BLOCK numbers for
+ * each of 1 to 64 resources, one after the other:
+ *   0         the portfolio it belongs to
+ *   1, 2      the start of its bid; how many steps the bid has, 1 to 10
+ *   3 to 24   end and price of each step in turn, with room for 11
+ *   25        where its default energy bid comes from: 0 from costs, any other number from a pack
+ *   26        how many points the costs have, 2 to 11
+ *   27 to 48  quantity (mw) and average heat rate (heat) of each point in turn
+ *   49 to 55  gas, rate, allowance, om, msc, soc and fee
+ *   56, 57    the start of the pack's curve; how many steps it has, 1 to 11
+ *   58 to 79  end and price of each step in turn
+ * A count below 0 is 0. Costs are not looked at where there is a pack, nor the other way round.
+ *
+ * Answers 0 and writes the state. Or it answers 9, then 10, then for each resource in the order of the numbers: the lowest of 1 to 3 for its
+ * bid, the lowest of 4 to 8 for its costs or of 1 to 3 for its pack's curve, and 11:
+ *   1 to 8  as noskjerf_bid and noskjerf_default; a pack's curve may have 11 steps, and prices from -1,000,000,000 to 1,000,000,000
+ *   9       the month is outside 1 to 1,200, the portfolios outside 1 to 16, or the resources outside 1 to 64
+ *   10      a seller is not 0 or 1, or a resource's portfolio is none of the portfolios
+ *   11      a bid reaches outside its default curve
+ */
+int64_t noskjerf_open(int64_t month, size_t portfolios, const int64_t *sellers, size_t sellers_len, size_t resources, const int64_t *blocks,
+                      size_t blocks_len, int64_t *state, size_t state_len);
+
+/*
+ * Takes an interval, of which an hour has four. A cut carries on to the next.
+ *
+ * `shadow` holds the shadow price of each of 0 to 32 constraints. `outputs` holds four numbers for each resource in turn: locational price,
+ * dispatch, available and floor. `factors` holds the shift factor of resource r on constraint c at 32 * r + c. `parameter` is added to the
+ * competitive price to make the floor price.
+ *
+ * Answers 0, changes the state, begins a quarter hour without a pass, and fills the first NOSKJERF_VERDICTS numbers of `verdicts`. Those of
+ * constraint c begin at NOSKJERF_VERDICT * c; past the constraints they say "not binding":
+ *   0        the verdict: 0 competitive, 1 non-competitive, 2 not binding
+ *   1, 2     demand, and what is left of supply; 0 where it is not binding
+ *   3        the sellers named, at most three: bit p stands for portfolio p
+ *   4 to 19  what each of 16 portfolios can withhold if it is named, else 0
+ * Or it answers the lowest refusal that applies:
+ *   12  four intervals are accepted already
+ *   13  the resource count is not the hour's
+ *   14  there are more than 32 constraints
+ *   15  a shadow price is outside 0 to 100,000,000, a locational price outside -100,000,000 to 100,000,000, a shift factor outside
+ *       -1,000,000 to 1,000,000, or the parameter outside 0 to 100
+ *   16  available is outside 0 to 1,000,000, or floor or dispatch is below 0 or above available
+ */
+int64_t noskjerf_interval(int64_t *state, size_t state_len, size_t constraints, const int64_t *shadow, size_t shadow_len, size_t resources,
+                          const int64_t *outputs, size_t outputs_len, const int64_t *factors, size_t factors_len, int64_t parameter,
+                          int64_t *verdicts, size_t verdicts_len);
+
+/*
+ * Takes a five-minute pass, of which up to three follow an accepted interval. It takes the numbers of an interval and gives verdicts as one
+ * does, but it cuts the five-minute curves alone.
+ *
+ * Answers as noskjerf_interval, but never 12; before 13 to 16 it answers
+ *   19  no interval is accepted yet, or three passes are accepted since the last
+ */
+int64_t noskjerf_pass(int64_t *state, size_t state_len, size_t constraints, const int64_t *shadow, size_t shadow_len, size_t resources,
+                      const int64_t *outputs, size_t outputs_len, const int64_t *factors, size_t factors_len, int64_t parameter,
+                      int64_t *verdicts, size_t verdicts_len);
+
+/*
+ * Tells why an interval or a pass with these numbers cuts each resource or not. The state is only read, and whose turn it is plays no part.
+ *
+ * Answers 0 and fills the first NOSKJERF_CAUSES numbers of `causes`. Those of resource r begin at 4 * r; past the resources they are 0:
+ *   0  1 where its bid is cut, else 0: it is where dispatch and component are above 0
+ *   1  its component C, minus the sum of shift factor times shadow price over the non-competitive constraints, in millionths
+ *   2  its competitive price: locational price less C, up
+ *   3  where it is cut its floor price, the competitive price and the parameter; else 0
+ * Or it answers the lowest of 13 to 16 that applies, as noskjerf_interval.
+ */
+int64_t noskjerf_why(const int64_t *state, size_t state_len, size_t constraints, const int64_t *shadow, size_t shadow_len, size_t resources,
+                     const int64_t *outputs, size_t outputs_len, const int64_t *factors, size_t factors_len, int64_t parameter,
+                     int64_t *causes, size_t causes_len);
+
+/*
+ * The bid curve of resource r after the accepted intervals.
+ *
+ * Answers 0 and fills the first NOSKJERF_HOUR_EDGES numbers of `edges` and the first NOSKJERF_HOUR_PRICES of `prices`:
+ *   edges[0]                how many steps the curve has, 1 to 20
+ *   edges[1]                where it starts, which is where the bid does
+ *   edges[2] and after it   the end of each step
+ *   prices[0] and after it  the price of each step
+ * Numbers past the steps are 0. A resource that an opened hour doesn't have has a curve with no steps, which starts at 0.
+ */
+int64_t noskjerf_curve(const int64_t *state, size_t state_len, size_t r, uint64_t *edges, size_t edges_len, int64_t *prices,
+                       size_t prices_len);
+
+/* Its five-minute curve: the same, cut further by the passes accepted since the last accepted interval. */
+int64_t noskjerf_five_minute(const int64_t *state, size_t state_len, size_t r, uint64_t *edges, size_t edges_len, int64_t *prices,
+                             size_t prices_len);
+
+/*
+ * Its one bid for the hour: at each quantity the lowest price of the four intervals' curves. Buffers as in noskjerf_curve; it may answer
+ *   20  fewer than four intervals are accepted
+ */
+int64_t noskjerf_hour_bid(const int64_t *state, size_t state_len, size_t r, uint64_t *edges, size_t edges_len, int64_t *prices,
+                          size_t prices_len);
+
+/* Its default curve, in buffers as noskjerf_default fills them: NOSKJERF_EDGES and NOSKJERF_PRICES numbers. */
+int64_t noskjerf_default_of(const int64_t *state, size_t state_len, size_t r, uint64_t *edges, size_t edges_len, int64_t *prices,
+                            size_t prices_len);
 
 #ifdef __cplusplus
 }

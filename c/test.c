@@ -226,6 +226,22 @@ static void test_told(void)
     CHECK(nothing_told(OPENING INTERVAL, 0, 0));
 }
 
+/* A pointer with length 0 may be null. */
+static void test_null(void)
+{
+    static const uint8_t case_t[] = OPENING INTERVAL;
+    size_t length = sizeof case_t - 1;
+
+    CHECK(prints_on(NULL, 0, sizeof page, REFUSAL("17 1")));
+    CHECK(noskjerf_run(case_t, length, NULL, 0) == -1);
+    CHECK(noskjerf_run(NULL, 0, NULL, 0) == -1);
+    CHECK(tells_of(NULL, 0, REFUSAL("17 1"), 17, 1));
+    CHECK(noskjerf_told(case_t, length, NULL, 0, told, NOSKJERF_TOLD) == -1);
+    memset(page, BEFORE, sizeof page);
+    CHECK(noskjerf_told(case_t, length, page, sizeof page, NULL, 0) == -1 && untouched_from(0));
+    CHECK(noskjerf_told(NULL, 0, NULL, 0, NULL, 0) == -1);
+}
+
 int main(void)
 {
     test_room();
@@ -234,5 +250,6 @@ int main(void)
     test_form();
     test_length();
     test_told();
+    test_null();
     return report("test");
 }

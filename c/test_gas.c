@@ -266,6 +266,39 @@ static void test_small_buffers(void)
     CHECK(too_small(NOSKJERF_REAL_TIME, 1, 1, 0, NOSKJERF_PRICES));
 }
 
+/* The answer for Case T's points and charges as far as they are there, at its gas price. */
+static int64_t shortened(size_t points_len, size_t charges_len)
+{
+    fill_buffers();
+    return noskjerf_gas_default(of_t, LENGTH(of_t), over, LENGTH(over), NOSKJERF_DAY_AHEAD, 1, 3, points_of_t, points_len, charges_of_t,
+                                charges_len, edges, NOSKJERF_EDGES, prices, NOSKJERF_PRICES);
+}
+
+/* Numbers past the end count as 0: points are refused, and charges cost nothing, which leaves 11/10 of 8 times the book's price. */
+static void test_short_slices(void)
+{
+    CHECK(shortened(5, NOSKJERF_CHARGES) == 6 && untouched());
+    CHECK(shortened(4, NOSKJERF_CHARGES) == 5 && untouched());
+    CHECK(shortened(6, 0) == 0 && prices[0] == 352000);
+    CHECK(shortened(6, 1) == 0 && prices[0] == 352000);
+    CHECK(shortened(6, 4) == 0 && prices[0] == 374000);
+}
+
+/* A pointer with length 0 may be null. */
+static void test_null(void)
+{
+    CHECK(never(NULL, 0));
+    CHECK(noskjerf_gas_run(days, LENGTH(days), NULL, 0, NOSKJERF_DAY_AHEAD, 5) == 4);
+    CHECK(noskjerf_gas_run(NULL, 0, days, LENGTH(days), NOSKJERF_REAL_TIME, 5) == 4);
+    CHECK(noskjerf_gas_run(NULL, 0, NULL, 0, 2, 5) == 0);
+    CHECK(on_lists(NULL, 0, days, LENGTH(days), NOSKJERF_REAL_TIME, 3) == 0 && prices[2] == 488402);
+    CHECK(on_lists(NULL, 0, NULL, 0, NOSKJERF_REAL_TIME, 3) == 21 && untouched());
+    CHECK(noskjerf_gas_default(days, LENGTH(days), NULL, 0, NOSKJERF_DAY_AHEAD, 4, 2, NULL, 0, NULL, 0, edges, NOSKJERF_EDGES, prices,
+                               NOSKJERF_PRICES) == 5
+          && untouched());
+    CHECK(noskjerf_gas_default(NULL, 0, NULL, 0, 0, 0, 0, NULL, 0, NULL, 0, NULL, 0, NULL, 0) == -1);
+}
+
 int main(void)
 {
     test_runs();
@@ -278,5 +311,7 @@ int main(void)
     test_order();
     test_lists();
     test_small_buffers();
+    test_short_slices();
+    test_null();
     return report("test_gas");
 }

@@ -83,6 +83,17 @@ static void test_months(void)
     CHECK(one_step(1200, 15000, 10000001) == 3);
 }
 
+/* Any month is taken: 0 as month 1, and one above 1,200 as month 1,200. */
+static void test_other_months(void)
+{
+    CHECK(one_step(0, 15000, 5000000) == 0);
+    CHECK(one_step(0, 15000, 5000001) == 3);
+    CHECK(one_step(1201, 15000, 10000000) == 0);
+    CHECK(one_step(1201, 15000, 10000001) == 3);
+    CHECK(one_step(UINT64_MAX, 15000, 10000000) == 0);
+    CHECK(one_step(UINT64_MAX, 15000, 10000001) == 3);
+}
+
 /* The lowest number wins, over the whole bid. */
 static void test_bid_order(void)
 {
@@ -92,15 +103,20 @@ static void test_bid_order(void)
     CHECK(two_steps(10000, 15000, 10000001, 15000, 10000002) == 2);
 }
 
-/* Numbers past the end of the steps count as 0; those past the count are not looked at. */
+/* Numbers past the end of the steps count as 0; those past the count are not looked at. The pointer may be null where there are none. */
 static void test_bid_lengths(void)
 {
     static const int64_t steps[] = { 15000, 300000, 14000, 0 };
+    static const int64_t high[] = { 15000, INT64_MAX };
     CHECK(noskjerf_bid(25, 10000, 1, steps, 4) == 0);
     CHECK(noskjerf_bid(25, 10000, 1, steps, 1) == 0);
+    CHECK(noskjerf_bid(25, 10000, 1, high, 2) == 3);
+    CHECK(noskjerf_bid(25, 10000, 1, high, 1) == 0);
     CHECK(noskjerf_bid(25, 10000, 1, steps, 0) == 2);
     CHECK(noskjerf_bid(25, 10000, 2, steps, 2) == 2);
     CHECK(noskjerf_bid(25, 10000, 0, steps, 0) == 1);
+    CHECK(noskjerf_bid(25, 10000, 1, NULL, 0) == 2);
+    CHECK(noskjerf_bid(25, 10000, 0, NULL, 0) == 1);
 }
 
 /* ---- default energy bids */
@@ -342,12 +358,57 @@ static void test_small_buffers(void)
     CHECK(too_small(1, 0, NOSKJERF_PRICES));
 }
 
+/* The answer for `count` of Case T's points, of which the first numbers are there, and for the first of its charges. */
+static int64_t shortened(size_t count, size_t points_len, size_t charges_len)
+{
+    fill_buffers();
+    return noskjerf_default(count, points_of_t, points_len, charges_of_t, charges_len, edges, NOSKJERF_EDGES, prices, NOSKJERF_PRICES);
+}
+
+/* Points past the end have quantity and heat rate 0, and so are refused; those past the count are not looked at. */
+static void test_short_points(void)
+{
+    static const int64_t other_last[] = { 10000, 10000, 20000, 9000, -1, -1 };
+    CHECK(shortened(3, 6, NOSKJERF_CHARGES) == 0);
+    CHECK(shortened(3, 5, NOSKJERF_CHARGES) == 6 && untouched());
+    CHECK(shortened(3, 4, NOSKJERF_CHARGES) == 5 && untouched());
+    CHECK(shortened(2, 3, NOSKJERF_CHARGES) == 6 && untouched());
+    CHECK(shortened(2, 0, NOSKJERF_CHARGES) == 5 && untouched());
+    CHECK(shortened(2, 4, NOSKJERF_CHARGES) == 0);
+    CHECK(answer(2, other_last, LENGTH(other_last), charges_of_t) == 0);
+    CHECK(answer(3, other_last, LENGTH(other_last), charges_of_t) == 5 && untouched());
+}
+
+/* Charges past the end are 0: 11/10 of 8, 9.5 and 10.5 times the gas price of 40,000 where it is there alone. */
+static void test_short_charges(void)
+{
+    static const int64_t longer[NOSKJERF_CHARGES + 1] = { 40000, 0, 0, 20000, 1000, 3000, 50, INT64_MIN };
+    CHECK(shortened(3, 6, 1) == 0 && prices[0] == 352000 && prices[1] == 418000 && prices[2] == 462000);
+    CHECK(shortened(3, 6, 4) == 0 && prices[0] == 374000 && prices[1] == 440000 && prices[2] == 484000);
+    CHECK(shortened(3, 6, 0) == 0 && edges[0] == 3 && prices[0] == 0 && prices[1] == 0 && prices[2] == 0);
+    fill_buffers();
+    CHECK(noskjerf_default(3, points_of_t, 6, longer, LENGTH(longer), edges, NOSKJERF_EDGES, prices, NOSKJERF_PRICES) == 0);
+    CHECK(prices[0] == 378402 && prices[1] == 444403 && prices[2] == 488402);
+}
+
+/* A pointer with length 0 may be null. */
+static void test_null(void)
+{
+    fill_buffers();
+    CHECK(noskjerf_default(2, NULL, 0, NULL, 0, edges, NOSKJERF_EDGES, prices, NOSKJERF_PRICES) == 5 && untouched());
+    CHECK(noskjerf_default(3, points_of_t, 6, charges_of_t, NOSKJERF_CHARGES, NULL, 0, prices, NOSKJERF_PRICES) == -1 && untouched());
+    CHECK(noskjerf_default(3, points_of_t, 6, charges_of_t, NOSKJERF_CHARGES, edges, NOSKJERF_EDGES, NULL, 0) == -1 && untouched());
+    CHECK(noskjerf_default(0, NULL, 0, NULL, 0, NULL, 0, NULL, 0) == -1);
+    CHECK(noskjerf_default(3, points_of_t, 6, NULL, 0, edges, NOSKJERF_EDGES, prices, NOSKJERF_PRICES) == 0 && prices[2] == 0);
+}
+
 int main(void)
 {
     test_step_count();
     test_edges();
     test_prices();
     test_months();
+    test_other_months();
     test_bid_order();
     test_bid_lengths();
     test_curve_of_t();
@@ -362,5 +423,8 @@ int main(void)
     test_incremental_heat_rate();
     test_cost_order();
     test_small_buffers();
+    test_short_points();
+    test_short_charges();
+    test_null();
     return report("test_judgements");
 }

@@ -1,4 +1,4 @@
-//! Links libnoskjerf.a from ../target/staticlib, or from the folder that NOSKJERF_LIB names.
+//! Links libnoskjerf.a from ../target/lib, or from the folder that NOSKJERF_LIB names.
 
 use std::env;
 use std::path::PathBuf;
@@ -8,7 +8,7 @@ use std::process;
 fn folder() -> PathBuf {
     match env::var_os("NOSKJERF_LIB") {
         Some(folder) => PathBuf::from(folder),
-        None => PathBuf::from(env!("CARGO_MANIFEST_DIR")).join("../target/staticlib"),
+        None => PathBuf::from(env!("CARGO_MANIFEST_DIR")).join("../target/lib"),
     }
 }
 
@@ -19,7 +19,7 @@ fn main() {
     println!("cargo:rerun-if-changed={}", library.display());
     if !library.is_file() {
         eprintln!(
-            "there is no {}: write it with `rt staticlib noskjerf`, or name its folder in NOSKJERF_LIB",
+            "there is no {}: write it with ./archive, or name its folder in NOSKJERF_LIB",
             library.display()
         );
         process::exit(1);

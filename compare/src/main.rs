@@ -1,10 +1,12 @@
 //! Runs generated texts through the engine's static library and through the independent implementation, and compares what they print, byte
-//! for byte; then as many books of gas prices, and compares what they answer in both markets: `compare [TEXTS] [FIRST SEED]`.
+//! for byte; then as many books of gas prices, and compares what they answer in both markets; then as many lists of calls in numbers, and
+//! compares what every call answers: `compare [TEXTS] [FIRST SEED]`.
 //!
-//! A seed gives the same text and the same book each time. A text on which the two differ is shrunk and saved in `failures/`, beside both
-//! outputs; a book is shown with both answers.
+//! A seed gives the same text, book and list each time. A text on which the two differ is shrunk and saved in `failures/`, beside both
+//! outputs; a book or a list is shown with both answers.
 
 mod books;
+mod calls;
 
 use independent::compare::shrink;
 use independent::generate;
@@ -68,16 +70,17 @@ fn main() -> ExitCode {
     let first = argument(2, 0);
     let share = move |thread: u64| {
         let seeds = (first..first + texts).filter(move |seed| seed % THREADS == thread);
-        [compare(seeds.clone()), books::compare(seeds)]
+        [compare(seeds.clone()), books::compare(seeds.clone()), calls::compare(seeds)]
     };
     let threads: Vec<_> = (0..THREADS)
         .map(|thread| thread::Builder::new().stack_size(STACK).spawn(move || share(thread)).expect("a thread"))
         .collect();
-    let shares: Vec<[usize; 2]> = threads.into_iter().map(|thread| thread.join().expect("no panic")).collect();
-    let [found, in_books] = [0, 1].map(|kind| shares.iter().map(|share| share[kind]).sum::<usize>());
+    let shares: Vec<[usize; 3]> = threads.into_iter().map(|thread| thread.join().expect("no panic")).collect();
+    let [found, in_books, in_calls] = [0, 1, 2].map(|kind| shares.iter().map(|share| share[kind]).sum::<usize>());
     println!("compare: {texts} texts, {found} differ");
     println!("compare: {texts} books in both markets, {in_books} differ");
-    if found + in_books == 0 {
+    println!("compare: {texts} lists of calls, {in_calls} differ");
+    if found + in_books + in_calls == 0 {
         ExitCode::SUCCESS
     } else {
         ExitCode::FAILURE

@@ -1,12 +1,15 @@
 //! What a range of seeds reaches.
 
 pub mod books;
+pub mod calls;
+pub mod edges;
 
 use crate::curve::Curve;
 use crate::generate;
 use crate::hour::{component, Resource};
 use crate::print::{answer, by_weight, print, Accepted, Answer};
 use crate::verdict::{Verdict, COMPETITIVE, NON_COMPETITIVE, NOT_BINDING};
+use edges::Edges;
 use std::ops::Range;
 
 #[derive(Clone, Debug, Default)]
@@ -57,6 +60,7 @@ pub struct Coverage {
     /// Texts of 65,535, 65,536 and 65,537 bytes.
     pub sizes: [usize; 3],
     pub full_texts_accepted_whole: usize,
+    pub edges: Edges,
 }
 
 impl Coverage {
@@ -67,6 +71,7 @@ impl Coverage {
             let answer = answer(&text);
             coverage.count_text(&text, &answer);
             coverage.count_answer(&answer);
+            coverage.edges.count(&answer);
         }
         coverage
     }
@@ -197,6 +202,7 @@ impl Coverage {
             && self.sizes.iter().all(|&count| count > 0)
             && self.verdicts.iter().all(|&count| count > 0)
             && self.most_steps == 20
+            && self.edges.all_reached()
             && [
                 self.accepted_intervals,
                 self.split_segments,

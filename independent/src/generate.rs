@@ -1,9 +1,12 @@
-//! Texts by seed: hours within the limits, values at and past the limits, damaged texts, counts
-//! over the room, texts at the size limit. Equal seeds give equal texts; the class of a text is
-//! its seed's remainder by 64. Beside them, books of gas prices by seed.
+//! Texts by seed: hours within the limits, the farthest counts and values, values at and past the
+//! limits, damaged texts, counts over the room, texts at the size limit. Equal seeds give equal texts; the class of a text is
+//! its seed's remainder by 64. Beside them, books of gas prices by seed, and lists of calls in
+//! numbers.
 
 pub mod books;
+pub mod calls;
 mod damage;
+mod edges;
 mod hours;
 mod limits;
 mod model;
@@ -18,7 +21,8 @@ use random::Random;
 pub fn text(seed: u64) -> Vec<u8> {
     let rng = &mut Random::new(seed);
     match seed % 64 {
-        0..=20 => hour(rng).bytes(),
+        0..=19 => hour(rng).bytes(),
+        20 => edges::text(rng),
         21..=32 => limit_changed(rng).bytes(),
         33..=37 => limits_changed(rng).bytes(),
         38..=41 => relations_changed(rng).bytes(),

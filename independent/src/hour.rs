@@ -7,13 +7,19 @@ use crate::verdict::{
     effectiveness, judge, sets_of_at_most_three, Counterflow, Verdict, NON_COMPETITIVE,
 };
 
+/// "A default curve, from a pack or from costs"
+#[derive(Clone, Debug)]
+pub enum Source {
+    Costs(Vec<Point>, Costs),
+    Pack(Curve),
+}
+
 /// A resource as the opening brings it.
 #[derive(Clone, Debug)]
 pub struct Offer {
     pub portfolio: i128,
     pub bid: Curve,
-    pub points: Vec<Point>,
-    pub costs: Costs,
+    pub source: Source,
 }
 
 #[derive(Clone, Debug)]
@@ -98,21 +104,47 @@ impl Opening {
     }
 }
 
+impl Source {
+    /// "costs (or the pack's curve)": 4 to 8, or 1 to 3 of a default curve.
+    pub fn default_energy_bid(&self) -> Result<Curve, Refusal> {
+        let curve = match self {
+            Source::Costs(points, costs) => default_curve(points, costs)?,
+            Source::Pack(curve) => curve.clone(),
+        };
+        check_default(&curve)?;
+        Ok(curve)
+    }
+
+    /// Whether the 80% mark splits a segment of the costs, and whether it is a point's quantity.
+    fn at_mark(&self) -> (bool, bool) {
+        match self {
+            Source::Costs(points, _) => {
+                let mark = mark(points);
+                (
+                    has_split(points),
+                    points.iter().any(|point| point.m == mark),
+                )
+            }
+            Source::Pack(_) => (false, false),
+        }
+    }
+}
+
 impl Offer {
-    fn open(&self, month: i128) -> Result<Resource, Refusal> {
+    pub fn open(&self, month: i128) -> Result<Resource, Refusal> {
         check_bid(&self.bid, month)?;
-        let default_energy_bid = default_curve(&self.points, &self.costs)?;
-        check_default(&default_energy_bid)?;
+        let default_energy_bid = self.source.default_energy_bid()?;
         // 11: "bid reaches outside its default curve"
         if self.bid.start < default_energy_bid.start || self.bid.end() > default_energy_bid.end() {
             return Err(11);
         }
+        let (is_split, mark_at_point) = self.source.at_mark();
         Ok(Resource {
             portfolio: self.portfolio as usize,
             bid: self.bid.clone(),
             default_energy_bid,
-            is_split: has_split(&self.points),
-            mark_at_point: self.points.iter().any(|point| point.m == mark(&self.points)),
+            is_split,
+            mark_at_point,
             floor_prices: Vec::new(),
         })
     }
@@ -120,7 +152,7 @@ impl Offer {
 
 impl Interval {
     /// 15: "shadow, lmp, parameter or factor outside limits"
-    fn prices_in_limits(&self) -> bool {
+    pub fn prices_in_limits(&self) -> bool {
         let far = 100_000_000;
         self.shadow_prices
             .iter()
@@ -138,7 +170,7 @@ impl Interval {
     }
 
     /// 16: "available outside 0 to 1,000,000, or floor or dispatch below 0 or above it"
-    fn quantities_in_limits(&self) -> bool {
+    pub fn quantities_in_limits(&self) -> bool {
         self.outputs.iter().all(|output| {
             is_quantity(output.available)
                 && within(output.floor, 0, output.available)
@@ -256,11 +288,36 @@ impl Hour {
         self.check(interval)?;
         let verdicts = self.verdicts(interval);
         for (index, resource) in self.resources.iter_mut().enumerate() {
-            resource.floor_prices.extend(cut(interval, &verdicts, index));
+            resource
+                .floor_prices
+                .extend(cut(interval, &verdicts, index));
         }
         self.accepted += 1;
         Ok(verdicts)
     }
+
+    /// Why an interval or a pass of these values cuts each resource or not.
+    pub fn causes(&self, interval: &Interval) -> Result<Vec<Cause>, Refusal> {
+        self.check_values(interval)?;
+        let verdicts = self.verdicts(interval);
+        let cause = |resource: usize| {
+            let component = component(interval, &verdicts, resource);
+            Cause {
+                component,
+                competitive_price: competitive_price(interval, resource, component),
+                floor_price: cut(interval, &verdicts, resource),
+            }
+        };
+        Ok((0..self.resources.len()).map(cause).collect())
+    }
+}
+
+/// C, the competitive price, and L where the interval cuts the resource.
+#[derive(Clone, Copy, Debug, PartialEq, Eq)]
+pub struct Cause {
+    pub component: i128,
+    pub competitive_price: i128,
+    pub floor_price: Option<i128>,
 }
 
 /// "C is minus the sum of s × shadow over non-competitive constraints."
@@ -282,10 +339,14 @@ pub fn cut(interval: &Interval, verdicts: &[Verdict], resource: usize) -> Option
     cuts.then(|| floor_price(interval, resource, c))
 }
 
-/// "Competitive price = lmp - C / 1,000,000, up ... Floor price L = competitive price + parameter."
+/// "Competitive price = lmp - C / 1,000,000, up"
+pub fn competitive_price(interval: &Interval, resource: usize, c: i128) -> i128 {
+    up(interval.outputs[resource].lmp * MILLION - c, MILLION)
+}
+
+/// "Floor price L = competitive price + parameter."
 pub fn floor_price(interval: &Interval, resource: usize, c: i128) -> i128 {
-    let competitive_price = up(interval.outputs[resource].lmp * MILLION - c, MILLION);
-    competitive_price + interval.parameter
+    competitive_price(interval, resource, c) + interval.parameter
 }
 
 #[cfg(test)]

@@ -5,6 +5,21 @@ use crate::hour::{cut, Hour, Interval};
 use crate::numbers::{within, Refusal};
 use crate::verdict::Verdict;
 
+/// A call of a list.
+#[derive(Clone, Debug)]
+pub enum Call {
+    Interval(Interval),
+    Pass(Interval),
+}
+
+impl Call {
+    pub fn values(&self) -> &Interval {
+        match self {
+            Call::Interval(values) | Call::Pass(values) => values,
+        }
+    }
+}
+
 /// An hour and the five-minute curves of the quarter hour that runs.
 #[derive(Clone, Debug)]
 pub struct RealTime {
@@ -24,6 +39,13 @@ impl RealTime {
             passes: 0,
             curves,
             after_interval: Vec::new(),
+        }
+    }
+
+    pub fn take(&mut self, call: &Call) -> Result<Vec<Verdict>, Refusal> {
+        match call {
+            Call::Interval(interval) => self.interval(interval),
+            Call::Pass(pass) => self.pass(pass),
         }
     }
 

@@ -25,6 +25,8 @@ pub struct Answer {
     pub opened: bool,
     pub accepted: Vec<Accepted>,
     pub refused: Option<Refused>,
+    /// An interval that was refused by its values, and the hour it came to.
+    pub refused_interval: Option<(Hour, Interval)>,
 }
 
 /// "18 is tested first, then each part's text before its values."
@@ -53,9 +55,12 @@ fn take_parts(text: &[u8], answer: &mut Answer) -> Result<(), Refused> {
     while !reader.at_end() {
         let interval = reader.interval()?;
         let last_line = reader.lines_read();
-        let verdicts = hour.take(&interval).map_err(|number| Refused {
-            number,
-            line: last_line,
+        let verdicts = hour.take(&interval).map_err(|number| {
+            answer.refused_interval = Some((hour.clone(), interval.clone()));
+            Refused {
+                number,
+                line: last_line,
+            }
         })?;
         let curves = hour
             .resources

@@ -2,7 +2,7 @@
 
 use crate::costs::{Costs, Point};
 use crate::curve::{Curve, Step};
-use crate::hour::{Interval, Offer, Opening, Output};
+use crate::hour::{Interval, Offer, Opening, Output, Source};
 use crate::numbers::{within, Refusal};
 
 pub const MONTH: &str = "month";
@@ -200,8 +200,10 @@ impl<'a> Reader<'a> {
         let offer = |resource: &Row| Offer {
             portfolio: resource[1],
             bid: bid(resource, &steps),
-            points: points_of(resource, &points),
-            costs: costs_of(&costs[resource[0] as usize]),
+            source: Source::Costs(
+                points_of(resource, &points),
+                costs_of(&costs[resource[0] as usize]),
+            ),
         };
         Ok(Opening {
             month,

@@ -1,35 +1,13 @@
 //! Judgements on one bid or one table of costs, without a text.
 
-use crate::{ffi, refusal::reason, Step};
-use std::error::Error;
-use std::fmt;
+use crate::{ffi, Step};
 
-/// Why a bid, costs or a book of gas prices were refused: the number of the reason, 1 to 8 or 21.
-#[derive(Clone, Copy, Debug, PartialEq, Eq, Hash)]
-pub struct Refused {
-    /// The number of the reason.
-    pub number: u8,
-}
-
-impl Refused {
-    /// The reason alone, as a sentence for a person.
-    pub fn reason(&self) -> &'static str {
-        reason(self.number)
-    }
-}
-
-impl fmt::Display for Refused {
-    fn fmt(&self, f: &mut fmt::Formatter<'_>) -> fmt::Result {
-        write!(f, "{} (refusal {})", self.reason(), self.number)
-    }
-}
-
-impl Error for Refused {}
+pub use crate::refusal::Refused;
 
 /// Judges a bid that starts at `start`, submitted in a month since the rule took effect; the month sets the highest price.
 ///
 /// The refusal is the lowest of 1 (the count of the steps), 2 (the edges) and 3 (the prices) that applies. The month itself is not
-/// judged; one before 1 counts as month 1.
+/// judged: any is taken, 0 counts as month 1, and one above 1,200 as month 1,200.
 ///
 /// ```
 /// use noskjerf::{judgement::bid, Step};
@@ -134,7 +112,7 @@ pub(crate) fn worked_out(engine: impl FnOnce(&mut [u64; ffi::EDGES], &mut [i64; 
 }
 
 /// The answer of the engine: 0, or the number of a refusal.
-fn refused_or_not(answer: u64) -> Result<(), Refused> {
+pub(crate) fn refused_or_not(answer: u64) -> Result<(), Refused> {
     match u8::try_from(answer).expect("the number of a refusal is small") {
         0 => Ok(()),
         number => Err(Refused { number }),
@@ -143,8 +121,8 @@ fn refused_or_not(answer: u64) -> Result<(), Refused> {
 
 /// The curve in buffers that the engine filled: how many steps, the start, the ends; and the prices.
 fn curve(edges: &[u64; ffi::EDGES], prices: &[i64; ffi::PRICES]) -> DefaultCurve {
-    let [steps, start, ends @ ..] = edges.map(|edge| i64::try_from(edge).expect("an edge is at most 1,000,000"));
-    let steps = usize::try_from(steps).expect("a curve has at most 11 steps");
+    let [steps, start, ends @ ..] = edges.map(|edge| i64::try_from(edge).expect("an edge is a number of 63 bits"));
+    let steps = usize::try_from(steps).unwrap_or(usize::MAX);
     let rows = ends.iter().zip(prices).take(steps);
     DefaultCurve {
         start,
@@ -300,6 +278,9 @@ mod tests {
     #[test]
     fn refused_says_why() {
         let refused = bid(25, 0, &[]).unwrap_err();
-        assert_eq!(refused.to_string(), "a bid has no step, or more than 10 (refusal 1)");
+        assert_eq!(
+            refused.to_string(),
+            "a bid has no step, or more than 10 (a pack's curve 11) (refusal 1)"
+        );
     }
 }

@@ -45,13 +45,14 @@
 //! assert_eq!(prices, [300000, 378402, 444403, 488402]);
 //! ```
 //!
-//! [`Hour`] drives an hour interval by interval, [`judgement`] judges one bid or works out one default energy bid, and [`gas`] takes the gas
-//! price for it from a book of published prices.
+//! [`Hour`] drives an hour in numbers, without a text: intervals, five-minute passes, curves, one bid for the hour, and why a bid was cut.
+//! [`TextHour`] drives one by the text of its parts. [`judgement`] judges one bid or works out one default energy bid, and [`gas`] takes the
+//! gas price for it from a book of published prices.
 //!
 //! # Building
 //!
-//! The engine is the static library `libnoskjerf.a`, which `rt staticlib noskjerf` writes to the project's `target/staticlib`. It is looked
-//! for there, or in the folder that the environment variable `NOSKJERF_LIB` names as an absolute path.
+//! The engine is a static library, `libnoskjerf.a`, which `./archive` writes to the project's `target/lib`. It is looked for there, or in the
+//! folder that the environment variable `NOSKJERF_LIB` names as an absolute path.
 //!
 //! # Units
 //!
@@ -68,20 +69,23 @@
 
 #[allow(unsafe_code)]
 mod ffi;
-#[cfg(feature = "judgements")]
 pub mod gas;
-mod hour;
-#[cfg(feature = "judgements")]
+pub mod hour;
 pub mod judgement;
 mod output;
 mod refusal;
+mod text_hour;
 
 pub use hour::Hour;
 pub use output::{Curve, Finding, Output, Page, Seller, Step, Verdict};
-pub use refusal::Refusal;
+pub use refusal::{Refusal, Refused};
+pub use text_hour::TextHour;
 
 /// How many bytes a text may have; a longer one is refused (18).
 pub const MAX_TEXT: usize = 65_536;
+
+/// How many bytes a page has to have for [`print_into`].
+pub const ROOM: usize = 655_424;
 
 /// What a text prints, byte for byte what the program `mitigate` writes for it.
 ///
@@ -92,9 +96,26 @@ pub fn print(text: &[u8]) -> Vec<u8> {
     printed(text).0
 }
 
+/// Puts what a text prints on a page of the caller's own, from its first byte on, and answers how many bytes that took: none where the text
+/// opens an hour and has no interval. The page's bytes past the count stay as they were.
+///
+/// Answers `None` where the page has fewer than [`ROOM`] bytes, whatever the text prints; the page is then untouched.
+///
+/// ```
+/// let mut page = vec![0; noskjerf::ROOM];
+/// for text in [b"month\n025\n", b"month\n1 5\n"] {
+///     let count = noskjerf::print_into(text, &mut page).unwrap();
+///     assert_eq!(&page[..count], b"refusal line\n17 2\n");
+/// }
+/// assert_eq!(noskjerf::print_into(b"", &mut page[1..]), None);
+/// ```
+pub fn print_into(text: &[u8], page: &mut [u8]) -> Option<usize> {
+    ffi::run(text, page, &mut [0; 2])
+}
+
 /// What a text prints, and its refusal.
 fn printed(text: &[u8]) -> (Vec<u8>, Option<Refusal>) {
-    let mut page = vec![0; ffi::room()];
+    let mut page = vec![0; ROOM];
     let mut told = [0; 2];
     let count = ffi::run(text, &mut page, &mut told).expect("the page has the room that the engine asks for");
     page.truncate(count);

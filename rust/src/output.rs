@@ -84,6 +84,18 @@ pub enum Finding {
     NotBinding,
 }
 
+impl Finding {
+    /// The finding that a number is printed for.
+    pub(crate) fn of(number: i64) -> Option<Finding> {
+        match number {
+            0 => Some(Finding::Competitive),
+            1 => Some(Finding::NonCompetitive),
+            2 => Some(Finding::NotBinding),
+            _ => None,
+        }
+    }
+}
+
 /// A net seller named for a constraint.
 #[derive(Clone, Copy, Debug, PartialEq, Eq)]
 pub struct Seller {
@@ -160,12 +172,7 @@ fn row<const N: usize>(line: &str) -> Option<[i64; N]> {
 fn verdict([_, constraint, finding, demand, left]: [i64; 5]) -> Option<Verdict> {
     Some(Verdict {
         constraint: constraint.try_into().ok()?,
-        finding: match finding {
-            0 => Finding::Competitive,
-            1 => Finding::NonCompetitive,
-            2 => Finding::NotBinding,
-            _ => return None,
-        },
+        finding: Finding::of(finding)?,
         demand: demand.try_into().ok()?,
         left: left.try_into().ok()?,
     })

@@ -41,12 +41,37 @@ impl fmt::Display for Refusal {
 
 impl Error for Refusal {}
 
+/// Why a call in numbers was refused: the number of the reason alone.
+///
+/// A bid has 1 to 3, costs 4 to 8, a book of gas prices 21. Opening an hour has 1 to 11, an interval 12 to 16, a pass 13 to 16 and 19, the bid
+/// for the hour 20.
+#[derive(Clone, Copy, Debug, PartialEq, Eq, Hash)]
+pub struct Refused {
+    /// The number of the reason.
+    pub number: u8,
+}
+
+impl Refused {
+    /// The reason alone, as a sentence for a person.
+    pub fn reason(&self) -> &'static str {
+        reason(self.number)
+    }
+}
+
+impl fmt::Display for Refused {
+    fn fmt(&self, f: &mut fmt::Formatter<'_>) -> fmt::Result {
+        write!(f, "{} (refusal {})", self.reason(), self.number)
+    }
+}
+
+impl Error for Refused {}
+
 /// What a number says.
 pub(crate) fn reason(number: u8) -> &'static str {
     match number {
-        1 => "a bid has no step, or more than 10",
-        2 => "an edge of a bid is outside 0 to 1,000,000, or its edges do not rise",
-        3 => "a bid price is outside the range that the month allows, or the prices fall",
+        1 => "a bid has no step, or more than 10 (a pack's curve 11)",
+        2 => "an edge of a bid (or of a pack's curve) is outside 0 to 1,000,000, or its edges do not rise",
+        3 => "a bid price is outside the range that the month allows (a pack's outside its own), or the prices fall",
         4 => "a resource has fewer than 2 cost points, or more than 11",
         5 => "the quantity of a cost point is outside 0 to 1,000,000, or the quantities do not rise",
         6 => "a heat rate is outside 1 to 100,000",

@@ -1,6 +1,6 @@
 //! The texts of the project, each NAME.txt with what it prints in NAME.out, through the wrapper.
 
-use noskjerf::{print, run, Finding, Hour, Output, Page, Refusal};
+use noskjerf::{print, run, Finding, Output, Page, Refusal, TextHour};
 use std::fmt::Write;
 use std::fs;
 use std::path::{Path, PathBuf};
@@ -76,7 +76,7 @@ fn pieces(text: &[u8]) -> Vec<Vec<u8>> {
 /// The pages of a text driven piece by piece, and the refusal that stopped it.
 fn driven(text: &[u8]) -> (Vec<Page>, Option<Refusal>) {
     let pieces = pieces(text);
-    let mut hour = match Hour::open(&pieces[0]) {
+    let mut hour = match TextHour::open(&pieces[0]) {
         Ok(hour) => hour,
         Err(refusal) => return (Vec::new(), Some(refusal)),
     };
@@ -124,7 +124,7 @@ fn printouts_of_one_hour_do_not_differ() {
         let printed = print(&case.text);
         assert_eq!(print(&case.text), printed, "{}", case.name);
         let pieces = pieces(&case.text);
-        let Ok(mut hour) = Hour::open(&pieces[0]) else {
+        let Ok(mut hour) = TextHour::open(&pieces[0]) else {
             continue;
         };
         let mut pages = String::new();
@@ -193,10 +193,10 @@ fn lines(text: &[u8]) -> impl Iterator<Item = &[u8]> {
 #[test]
 fn a_text_of_several_parts_is_refused_on_the_line_after_the_first() {
     for case in cases().iter().filter(|case| lines(&case.text).count() < 400) {
-        let opened = Hour::open(&case.text).err();
+        let opened = TextHour::open(&case.text).err();
         assert_eq!(opened, refusal_of_one_part(b"", 0, &case.text), "{}", case.name);
         let opening = &pieces(&case.text)[0];
-        if let Ok(mut hour) = Hour::open(opening) {
+        if let Ok(mut hour) = TextHour::open(opening) {
             let rest = &case.text[opening.len()..];
             let taken = hour.interval(rest).err();
             assert_eq!(taken, refusal_of_one_part(opening, 1, rest), "{}", case.name);

@@ -3,3 +3,4 @@ pub mod WeightLaws
 pub mod LimitLaws
 pub mod FloorLaws
 pub mod AnswerLaws
+pub mod CauseLaws

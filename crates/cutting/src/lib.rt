@@ -1,5 +1,5 @@
-// What an interval, or a pass, makes of floor prices (paper 01, Interval and hour; 31.2.3, 34.1.5; Refused, by place: 13 to 16).
-// The contracts cite specs/Weights and the definitions of rules_hour.
+// What an interval, or a pass, makes of floor prices, and why (paper 01, Interval and hour; 31.2.3, 34.1.5; Refused, by place: 13 to 16).
+// The contracts cite specs/Weights, specs/Causes and the definitions of rules_hour.
 ghost use mathlib.Core.Path.{_≡_};
 ghost use Prim.Native.Nat.{_≤_};
 ghost use lib.IntN.{natAbs};
@@ -11,6 +11,7 @@ ghost use Rattle.rules_hour.specs.Cuts.{cutBy};
 ghost use Rattle.rules_hour.specs.Hours.{floorsAfter};
 ghost use Rattle.cutting.specs.Weights as Weights;
 ghost use Rattle.cutting.specs.Weights.{weightsOf, weighed, Weighable, Cuttable, weighedFloors};
+ghost use Rattle.cutting.specs.Causes.{causeBy, weighedCauses, causesOf, causesUnless};
 use rules_curve::Outcome;
 use rules_hour::Floor;
 use rules_interval::Interval;
@@ -24,6 +25,19 @@ pub struct Cutting {
     pub outcome: Outcome,
     pub floors: [Floor; Interval::MAX_RESOURCES],
     pub verdicts: [Verdict; Interval::MAX_CONSTRAINTS],
+}
+
+// Why a resource is cut or not: its cut, its component and its competitive price.
+pub struct Cause {
+    pub cut: FloorPrice,
+    pub component: i64,
+    pub competitive: i64,
+}
+
+// The causes of an interval, blank past its resources; or blank ones and the refusal.
+pub struct Causes {
+    pub outcome: Outcome,
+    pub list: [Cause; Interval::MAX_RESOURCES],
 }
 
 // The shadow price of a constraint, where its finding lets it enter the component.
@@ -167,5 +181,101 @@ pub fn cut_floors<'a>(
             parameter,
         ),
         verdicts: verdicts,
+    }
+}
+
+// Why a resource with these numbers is cut or not.
+fn cause_of(dispatch: i64, lmp: i64, component: i64, parameter: i64) -> Cause
+    requires { ⌜ (natAbs lmp ≤ 100000000) × ((natAbs component ≤ 3200000000000000) × (natAbs parameter ≤ 100)) ⌝ }
+    ensures { λ r. ⌜ r ≡ causeBy dispatch lmp component parameter ⌝ }
+{
+    Cause {
+        cut: cut_by(dispatch, lmp, component, parameter),
+        component,
+        competitive: number::ceil_by(lmp * 1_000_000 - component, 1_000_000),
+    }
+}
+
+// The cause of each of the resources of an interval of these values and verdicts.
+fn causes_each<'a>(
+    verdicts: [Verdict; Interval::MAX_CONSTRAINTS],
+    constraints: usize,
+    shadow: &'a [i64; Interval::MAX_CONSTRAINTS],
+    resources: usize,
+    lmp: &'a [i64; Interval::MAX_RESOURCES],
+    dispatch: &'a [i64; Interval::MAX_RESOURCES],
+    factors: &'a [i64; Interval::MAX_FACTORS],
+    parameter: i64,
+) -> [Cause; Interval::MAX_RESOURCES]
+    requires { ⌜ Cuttable constraints (now shadow) resources (now lmp) (now factors) parameter ⌝ }
+    ensures { λ r. ⌜ r ≡ weighedCauses (now (lmp .entry)) (now (dispatch .entry)) (now (factors .entry)) parameter (weightsOf (now (shadow .entry)) verdicts constraints) constraints resources ⌝ }
+{
+    let weights = weights_of(shadow, verdicts, constraints);
+    let mut list = [Cause {
+        cut: FloorPrice::Uncut,
+        component: 0,
+        competitive: 0,
+    }; Interval::MAX_RESOURCES];
+    let mut r: usize = 0;
+    while r < resources {
+        let component = component_of(factors, &weights, r, constraints);
+        list[r] = cause_of(dispatch[r], lmp[r], component, parameter);
+        r += 1;
+    }
+    list
+}
+
+// Why an interval of these values cuts the resources of this market or not, or the lowest of refusals 13 to 16 that applies.
+pub fn causes_of<'a>(
+    market: Market,
+    constraints: usize,
+    shadow: &'a [i64; Interval::MAX_CONSTRAINTS],
+    resources: usize,
+    lmp: &'a [i64; Interval::MAX_RESOURCES],
+    dispatch: &'a [i64; Interval::MAX_RESOURCES],
+    available: &'a [i64; Interval::MAX_RESOURCES],
+    floor: &'a [i64; Interval::MAX_RESOURCES],
+    factors: &'a [i64; Interval::MAX_FACTORS],
+    parameter: i64,
+) -> Causes
+    ensures number { λ r. ⌜ outcomeNumber (r .outcome) ≡ intervalRefusal (market .resources) (intervalOf constraints (now (shadow .entry)) resources (now (lmp .entry)) (now (dispatch .entry)) (now (available .entry)) (now (floor .entry)) (now (factors .entry)) parameter) ⌝ }
+    ensures list { λ r. ⌜ r .list ≡ causesUnless (intervalRefusal (market .resources) (intervalOf constraints (now (shadow .entry)) resources (now (lmp .entry)) (now (dispatch .entry)) (now (available .entry)) (now (floor .entry)) (now (factors .entry)) parameter)) (causesOf market (intervalOf constraints (now (shadow .entry)) resources (now (lmp .entry)) (now (dispatch .entry)) (now (available .entry)) (now (floor .entry)) (now (factors .entry)) parameter)) ⌝ }
+{
+    let judged = path::judged(
+        market,
+        constraints,
+        shadow,
+        resources,
+        lmp,
+        dispatch,
+        available,
+        floor,
+        factors,
+        parameter,
+    );
+    let outcome = judged.outcome;
+    let verdicts = judged.verdicts;
+    let Outcome::Accepted = outcome else {
+        return Causes {
+            outcome: outcome,
+            list: [Cause {
+                cut: FloorPrice::Uncut,
+                component: 0,
+                competitive: 0,
+            }; Interval::MAX_RESOURCES],
+        };
+    };
+    Causes {
+        outcome: outcome,
+        list: causes_each(
+            verdicts,
+            constraints,
+            shadow,
+            resources,
+            lmp,
+            dispatch,
+            factors,
+            parameter,
+        ),
     }
 }

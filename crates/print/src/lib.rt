@@ -2,11 +2,14 @@
 use rules_text::Printed;
 use text_numbers::closing;
 ghost use mathlib.Core.Path.{_≡_};
-ghost use Prim.Native.Nat.{_+_, _/_, _^_, _<_, _≤_};
+ghost use mathlib.Core.Bool.{true, false};
+ghost use mathlib.Core.List.{[], _∷_, _++_};
+ghost use Prim.Native.Nat.{_+_, _*_, _/_, _%_, _^_, _<_, _≤_};
 ghost use lib.ListN.{length, take};
 ghost use lib.Seq.{sets};
 ghost use lib.Dec.{leb};
-ghost use lib.IntN.{natAbs};
+ghost use lib.IntN.{natAbs, pos};
+ghost use lib.Signed.{ltZ};
 ghost use Rattle.rules_text.specs.Printing.{digits, sign, decimal, lineText, printed, printedTo};
 
 fn magnitude(x: i64) -> u64
@@ -89,6 +92,149 @@ fn put_digits(out: &mut [u8], at: usize, n: u64) -> usize
     at + count
 }
 
+fn low(w: u64) -> u8
+    ensures { λ r. ⌜ r ≡ w % 256 ⌝ }
+{
+    (w % 256) as u8
+}
+
+// Puts the four lowest bytes of w at an offset, the lowest first: one store.
+fn put_word(out: &mut [u8], at: usize, w: u64)
+    requires { ⌜ at + 4 ≤ length (now out) ⌝ }
+    ensures { λ r. ⌜ now (out .exit) ≡ sets (now (out .entry)) at (w % 256 ∷ w / 256 % 256 ∷ w / 65536 % 256 ∷ w / 16777216 % 256 ∷ []) ⌝ }
+{
+    out[at] = low(w);
+    out[at + 1] = low(w >> 8);
+    out[at + 2] = low(w >> 16);
+    out[at + 3] = low(w >> 24);
+}
+
+// Four digits as bytes of one number, the first lowest: pairs in lanes of 16 bits, of which one product and one shift take the tens.
+fn four(n: u64) -> u64
+    requires { ⌜ n < 10000 ⌝ }
+    ensures { λ r. ⌜ r ≡ 48 + n / 1000 + (48 + n / 100 % 10) * 256 + (48 + n / 10 % 10) * 65536 + (48 + n % 10) * 16777216 ⌝ }
+{
+    let hundreds = n * 5243 / 524_288;
+    let pairs = n * 65_536 - hundreds * 6_553_599;
+    let tens = ((pairs * 103) >> 10) & 0x000f_000f;
+    pairs * 256 - tens * 2559 + 0x3030_3030
+}
+
+// Puts two digits at an offset.
+fn put_two(out: &mut [u8], at: usize, n: u64)
+    requires { ⌜ (n < 100) × (at + 2 ≤ length (now out)) ⌝ }
+    ensures { λ r. ⌜ now (out .exit) ≡ sets (now (out .entry)) at ((48 + n / 10) ∷ (48 + n % 10) ∷ []) ⌝ }
+{
+    let ten = tens(n);
+    out[at] = digit(ten);
+    out[at + 1] = digit(n - ten * 10);
+}
+
+// Puts four digits at an offset.
+fn put_four(out: &mut [u8], at: usize, n: u64)
+    requires { ⌜ (n < 10000) × (at + 4 ≤ length (now out)) ⌝ }
+    ensures { λ r. ⌜ now (out .exit) ≡ sets (now (out .entry)) at ((48 + n / 1000) ∷ (48 + n / 100 % 10) ∷ (48 + n / 10 % 10) ∷ (48 + n % 10) ∷ []) ⌝ }
+{
+    put_word(out, at, four(n));
+}
+
+// Puts four digits and the byte that closes them at an offset, and answers the offset after it.
+fn put_tail(out: &mut [u8], at: usize, n: u64, end: u8) -> usize
+    requires { ⌜ (n < 10000) × (at + 5 ≤ length (now out)) ⌝ }
+    ensures { λ r. ⌜ (now (out .exit) ≡ sets (now (out .entry)) at ((48 + n / 1000) ∷ (48 + n / 100 % 10) ∷ (48 + n / 10 % 10) ∷ (48 + n % 10) ∷ end ∷ [])) × (r ≡ at + 5) ⌝ }
+{
+    put_four(out, at, n);
+    out[at + 4] = end;
+    at + 5
+}
+
+// Puts a number of up to four digits, and the byte that closes it.
+fn put_few(out: &mut [u8], at: usize, n: u64, end: u8) -> usize
+    requires { ⌜ (n < 10000) × (at + length (digits 19 n) < length (now out)) ⌝ }
+    ensures { λ r. ⌜ (now (out .exit) ≡ sets (now (out .entry)) at (digits 19 n ++ (end ∷ []))) × (r ≡ at + length (digits 19 n) + 1) ⌝ }
+{
+    if n < 10 {
+        out[at] = digit(n);
+        out[at + 1] = end;
+        return at + 2;
+    }
+    if n < 100 {
+        put_two(out, at, n);
+        out[at + 2] = end;
+        return at + 3;
+    }
+    if n < 1000 {
+        let high = n / 100;
+        out[at] = digit(high);
+        put_two(out, at + 1, n - high * 100);
+        out[at + 3] = end;
+        return at + 4;
+    }
+    put_tail(out, at, n, end)
+}
+
+// Puts a number of five or six digits, and the byte that closes it.
+fn put_more(out: &mut [u8], at: usize, n: u64, end: u8) -> usize
+    requires { ⌜ (10000 ≤ n) × (n < 1000000) × (at + length (digits 19 n) < length (now out)) ⌝ }
+    ensures { λ r. ⌜ (now (out .exit) ≡ sets (now (out .entry)) at (digits 19 n ++ (end ∷ []))) × (r ≡ at + length (digits 19 n) + 1) ⌝ }
+{
+    let high = n / 10_000;
+    let left = n - high * 10_000;
+    if high < 10 {
+        out[at] = digit(high);
+        return put_tail(out, at + 1, left, end);
+    }
+    put_two(out, at, high);
+    put_tail(out, at + 2, left, end)
+}
+
+// Puts a number of seven or eight digits, and the byte that closes it.
+fn put_many(out: &mut [u8], at: usize, n: u64, end: u8) -> usize
+    requires { ⌜ (1000000 ≤ n) × (n < 100000000) × (at + length (digits 19 n) < length (now out)) ⌝ }
+    ensures { λ r. ⌜ (now (out .exit) ≡ sets (now (out .entry)) at (digits 19 n ++ (end ∷ []))) × (r ≡ at + length (digits 19 n) + 1) ⌝ }
+{
+    let high = n / 10_000;
+    let left = n - high * 10_000;
+    if high < 1000 {
+        let top = high / 100;
+        out[at] = digit(top);
+        put_two(out, at + 1, high - top * 100);
+        return put_tail(out, at + 3, left, end);
+    }
+    put_four(out, at, high);
+    put_tail(out, at + 4, left, end)
+}
+
+// Puts a number of nine digits or more, and the byte that closes it.
+fn put_long(out: &mut [u8], at: usize, n: u64, end: u8) -> usize
+    requires { ⌜ (100000000 ≤ n) × (n < 10 ^ 19) × (at + length (digits 19 n) < length (now out)) ⌝ }
+    ensures { λ r. ⌜ (now (out .exit) ≡ sets (now (out .entry)) at (digits 19 n ++ (end ∷ []))) × (r ≡ at + length (digits 19 n) + 1) ⌝ }
+{
+    let high = n / 100_000_000;
+    let left = n - high * 100_000_000;
+    let top = left / 10_000;
+    let p = put_digits(out, at, high);
+    put_four(out, p, top);
+    put_tail(out, p + 4, left - top * 10_000, end)
+}
+
+// Puts the digits of n and the byte that closes them at an offset, and answers the offset after it.
+fn put_closed(out: &mut [u8], at: usize, n: u64, end: u8) -> usize
+    requires { ⌜ (n < 10 ^ 19) × (at + length (digits 19 n) < length (now out)) ⌝ }
+    ensures { λ r. ⌜ (now (out .exit) ≡ sets (now (out .entry)) at (digits 19 n ++ (end ∷ []))) × (r ≡ at + length (digits 19 n) + 1) ⌝ }
+{
+    if n < 10_000 {
+        return put_few(out, at, n, end);
+    }
+    if n < 1_000_000 {
+        return put_more(out, at, n, end);
+    }
+    if n < 100_000_000 {
+        return put_many(out, at, n, end);
+    }
+    put_long(out, at, n, end)
+}
+
 // Puts the minus of a negative number at an offset, and answers the offset after it.
 fn put_sign(out: &mut [u8], at: usize, x: i64) -> usize
     requires { ⌜ at + length (sign x) ≤ length (now out) ⌝ }
@@ -110,6 +256,54 @@ fn put_number(out: &mut [u8], at: usize, x: i64) -> usize
     put_digits(out, p, magnitude(x))
 }
 
+// Puts a number and the byte that closes it at an offset, and answers the offset after it.
+fn put_value(out: &mut [u8], at: usize, x: i64, end: u8) -> usize
+    requires { ⌜ at + length (decimal x) < length (now out) ⌝ }
+    ensures { λ r. ⌜ (now (out .exit) ≡ sets (now (out .entry)) at (decimal x ++ (end ∷ []))) × (r ≡ at + length (decimal x) + 1) ⌝ }
+{
+    if x < 0 {
+        out[at] = 45;
+        return put_closed(out, at + 1, magnitude(x), end);
+    }
+    put_closed(out, at, magnitude(x), end)
+}
+
+// The head of a line as bytes of one number, the first lowest: a digit, and one digit more or two.
+fn head_of(a: u64, b: u64) -> u64
+    requires { ⌜ (a < 10) × (b < 100) ⌝ }
+    ensures { λ r. ⌜ (b < 10 → r ≡ 48 + a + 32 * 256 + (48 + b) * 65536 + 32 * 16777216) ⌝ }
+    ensures { λ r. ⌜ (10 ≤ b → r ≡ 48 + a + 32 * 256 + (48 + b / 10) * 65536 + (48 + b % 10) * 16777216) ⌝ }
+{
+    if b < 10 {
+        return 0x2030_2030 + a + b * 65_536;
+    }
+    let ten = tens(b);
+    0x3030_2030 + a + ten * 65_536 + (b - ten * 10) * 16_777_216
+}
+
+// Puts the head of a line at an offset, and answers the offset after it.
+fn put_head(out: &mut [u8], at: usize, a: u64, b: u64) -> usize
+    requires { ⌜ (a < 10) × (b < 100) × (at + 5 ≤ length (now out)) ⌝ }
+    ensures { λ r. ⌜ (now (out .exit) ≡ sets (now (out .entry)) at (digits 19 a ++ (32 ∷ (digits 19 b ++ (32 ∷ []))))) × (r ≡ at + length (digits 19 b) + 3) ⌝ }
+{
+    put_word(out, at, head_of(a, b));
+    if b < 10 {
+        return at + 4;
+    }
+    out[at + 4] = 32;
+    at + 5
+}
+
+// Puts a line of four values, of which the first has one digit and the second up to two, and answers the offset after it.
+fn put_step(out: &mut [u8], at: usize, a: u64, b: u64, c: i64, d: i64) -> usize
+    requires { ⌜ (a < 10) × (b < 100) × (at + 84 ≤ length (now out)) ⌝ }
+    ensures { λ r. ⌜ (now (out .exit) ≡ sets (now (out .entry)) at (lineText (pos a ∷ pos b ∷ c ∷ d ∷ []))) × (r ≡ at + length (lineText (pos a ∷ pos b ∷ c ∷ d ∷ []))) ⌝ }
+{
+    let p = put_head(out, at, a, b);
+    let q = put_value(out, p, c, 32);
+    put_value(out, q, d, 10)
+}
+
 // Puts the line of the first k values at an offset, and answers the offset after it.
 fn put_line(out: &mut [u8], at: usize, v: [i64; 5], k: usize) -> usize
     requires { ⌜ k ≤ 5 ⌝ }
@@ -120,9 +314,7 @@ fn put_line(out: &mut [u8], at: usize, v: [i64; 5], k: usize) -> usize
     let mut i = 0;
     while i < k {
         let x = v[i];
-        let q = put_number(out, p, x);
-        out[q] = closing(k - i - 1);
-        p = q + 1;
+        p = put_value(out, p, x, closing(k - i - 1));
         i += 1;
     }
     p
@@ -186,8 +378,8 @@ pub fn print_number(out: &mut [u8], at: usize, x: i64) -> Printed
     Printed::To(put_number(out, at, x))
 }
 
-// Prints the line of the first k values at an offset, where it fits.
-pub fn print_line(out: &mut [u8], at: usize, v: [i64; 5], k: usize) -> Printed
+// Prints the line of the first k values at an offset, where it fits, whatever they are.
+fn print_any(out: &mut [u8], at: usize, v: [i64; 5], k: usize) -> Printed
     ensures { λ r. ⌜ now (out .exit) ≡ printed (now (out .entry)) at (lineText (take k v)) ⌝ }
     ensures { λ r. ⌜ r ≡ printedTo (now (out .entry)) at (lineText (take k v)) ⌝ }
 {
@@ -196,6 +388,52 @@ pub fn print_line(out: &mut [u8], at: usize, v: [i64; 5], k: usize) -> Printed
         return Printed::Full;
     }
     Printed::To(put_line(out, at, v, n))
+}
+
+// Whether x is a number of 0 to n - 1.
+fn is_below(x: i64, n: u64) -> bool
+    ensures { λ r. ⌜ (r ≡ true → (ltZ x (pos 0) ≡ false) × (natAbs x < n)) ⌝ }
+{
+    if x < 0 {
+        return false;
+    }
+    magnitude(x) < n
+}
+
+// Whether a line of four values has room, and begins with a digit and one digit more or two.
+fn has_head(size: usize, at: usize, a: i64, b: i64) -> bool
+    ensures { λ r. ⌜ (r ≡ true → at + 84 ≤ size) ⌝ }
+    ensures { λ r. ⌜ (r ≡ true → (ltZ a (pos 0) ≡ false) × (natAbs a < 10)) ⌝ }
+    ensures { λ r. ⌜ (r ≡ true → (ltZ b (pos 0) ≡ false) × (natAbs b < 100)) ⌝ }
+{
+    if size < 84 {
+        return false;
+    }
+    if size - 84 < at {
+        return false;
+    }
+    if !is_below(a, 10) {
+        return false;
+    }
+    is_below(b, 100)
+}
+
+// Prints the line of the first k values at an offset, where it fits.
+pub fn print_line(out: &mut [u8], at: usize, v: [i64; 5], k: usize) -> Printed
+    ensures { λ r. ⌜ now (out .exit) ≡ printed (now (out .entry)) at (lineText (take k v)) ⌝ }
+    ensures { λ r. ⌜ r ≡ printedTo (now (out .entry)) at (lineText (take k v)) ⌝ }
+{
+    if k != 4 {
+        return print_any(out, at, v, k);
+    }
+    let a = v[0];
+    let b = v[1];
+    let c = v[2];
+    let d = v[3];
+    if !has_head(out.len(), at, a, b) {
+        return print_any(out, at, v, k);
+    }
+    Printed::To(put_step(out, at, magnitude(a), magnitude(b), c, d))
 }
 
 // Prints a names line at an offset, where it fits.

@@ -10,21 +10,21 @@ use lib.IntN.{ℤ, pos, negsuc}
 use lib.ListN.{length}
 use lib.Seq.{sets}
 use Rattle.rules_curve.specs.declared.Curve.{Curve}
-use Rattle.rules_library.specs.Slices.{edgeCount, priceCount, edgesOf, pricesOf, hasRoom, answerOf, ifWritten, edgesWith, pricesWith}
+use Rattle.rules_library.specs.Slices.{edgeCount, priceCount, edgesOf, pricesOf, hasRoom, putAnswer, ifWritten, edgesWith, pricesWith}
 
 module _ (edges : List ℕ) (prices : List ℤ) (n : ℕ) (curve : Curve) where
   -- the answer and the two slices are as they should be
   abbrev pub Answered : ℤ → List ℕ → List ℤ → Type 0
-  Answered r e p = (r ≡ answerOf edges prices n) × ((e ≡ edgesWith edges prices n curve) × (p ≡ pricesWith edges prices n curve))
+  Answered r e p = (r ≡ putAnswer edges prices n) × ((e ≡ edgesWith edges prices n curve) × (p ≡ pricesWith edges prices n curve))
 
-  answered : (z : ℤ) → answerOf edges prices n ≡ z → Answered z (ifWritten z (sets edges 0 (edgesOf curve)) edges) (ifWritten z (sets prices 0 (pricesOf curve)) prices)
+  answered : (z : ℤ) → putAnswer edges prices n ≡ z → Answered z (ifWritten z (sets edges 0 (edgesOf curve)) edges) (ifWritten z (sets prices 0 (pricesOf curve)) prices)
   unfolding edgesWith pricesWith
   answered z h = (
     sym h,
     (ap (λ (x : ℤ). ifWritten x (sets edges 0 (edgesOf curve)) edges) (sym h), ap (λ (x : ℤ). ifWritten x (sets prices 0 (pricesOf curve)) prices) (sym h)),
   )
 
-  by-room : (b : Bool) → hasRoom edges prices ≡ b → answerOf edges prices n ≡ cond b (pos n) (negsuc 0)
+  by-room : (b : Bool) → hasRoom edges prices ≡ b → putAnswer edges prices n ≡ cond b (pos n) (negsuc 0)
   by-room b h = ap (λ (t : Bool). cond t (pos n) (negsuc 0)) h
 
   pub few-edges : length edges < edgeCount → Answered (negsuc 0) edges prices
@@ -38,7 +38,7 @@ module _ (edges : List ℕ) (prices : List ℤ) (n : ℕ) (curve : Curve) where
     few-prices k = answered (negsuc 0) (by-room _ (room _ (lt-leb priceCount (length prices) k)))
 
     module _ (k : priceCount ≤ length prices) where
-      number : (m : ℕ) → n ≡ m → answerOf edges prices n ≡ pos m
+      number : (m : ℕ) → n ≡ m → putAnswer edges prices n ≡ pos m
       number m e = by-room _ (room _ (le-leb priceCount (length prices) k)) ∙ ap pos e
 
       pub refused : (m : ℕ) → 0 < m → n ≡ m → Answered (pos m) edges prices

@@ -7,7 +7,7 @@ ghost use Prim.Native.Nat.{_≤_};
 ghost use lib.ListN.{length};
 ghost use lib.Seq.{sets};
 ghost use Rattle.rules_curve.specs.Refusals.{outcomeNumber};
-ghost use Rattle.rules_library.specs.Slices.{edgeCount, priceCount, answerOf, edgesWith, pricesWith, edgesOf, pricesOf};
+ghost use Rattle.rules_library.specs.Slices.{edgeCount, priceCount, putAnswer, edgesWith, pricesWith, edgesOf, pricesOf};
 
 // How many numbers the two slices have to have: the number of steps, the start and the ends of a curve; and its prices.
 const EDGES: usize = Curve::MAX_STEPS + 2;
@@ -46,7 +46,7 @@ fn put_prices(curve: Curve, prices: &mut [i64])
 // Puts a checked curve into two lent slices: answers 0 and puts the number of steps, the start and the ends into `edges` and the prices into `prices`; or answers the
 // number of the refusal, or -1 where a slice has too few numbers, and leaves both as they were.
 pub fn put_checked(checked: Checked, edges: &mut [u64], prices: &mut [i64]) -> i64
-    ensures answer { λ r. ⌜ r ≡ answerOf (now (edges .entry)) (now (prices .entry)) (outcomeNumber (checked .outcome)) ⌝ }
+    ensures answer { λ r. ⌜ r ≡ putAnswer (now (edges .entry)) (now (prices .entry)) (outcomeNumber (checked .outcome)) ⌝ }
     ensures edges { λ r. ⌜ now (edges .exit) ≡ edgesWith (now (edges .entry)) (now (prices .entry)) (outcomeNumber (checked .outcome)) (checked .curve) ⌝ }
     ensures prices { λ r. ⌜ now (prices .exit) ≡ pricesWith (now (edges .entry)) (now (prices .entry)) (outcomeNumber (checked .outcome)) (checked .curve) ⌝ }
 {

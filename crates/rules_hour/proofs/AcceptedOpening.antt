@@ -49,7 +49,7 @@ module _ (o : Opening) (accepted : openingRefusal o ≡ 0) where
   opened-hour = rw accepted
 
   -- 9, 10 and every resource's check let it pass
-  checks : (countsGood o ≡ true) × (membersGood o ≡ true) × (eachTo (λ r. resourceRefusal (natOf (o .month)) (resourceAt o r)) (o .resources) ≡ 0)
+  pub checks : (countsGood o ≡ true) × (membersGood o ≡ true) × (eachTo (λ r. resourceRefusal (natOf (o .month)) (resourceAt o r)) (o .resources) ≡ 0)
   unfolding openingRefusal
   checks =
       let x = then-both (unless (countsGood o) 9 then unless (membersGood o) 10) (eachTo (λ r. resourceRefusal (natOf (o .month)) (resourceAt o r)) (o .resources)) accepted in
@@ -74,7 +74,7 @@ module _ (o : Opening) (accepted : openingRefusal o ≡ 0) where
 
   module _ (r : ℕ) (l : r < o .resources) where
     -- bid, costs or pack, and 11 let it pass
-    resource-checks : (bidRefusal (natOf (o .month)) (resourceAt o r .bid) ≡ 0)
+    pub resource-checks : (bidRefusal (natOf (o .month)) (resourceAt o r .bid) ≡ 0)
         × (sourceRefusal (resourceAt o r .source) (resourceAt o r) ≡ 0) × (liesInside (submitted o r) (defaultOf o r) ≡ true)
     unfolding resourceRefusal
     resource-checks =

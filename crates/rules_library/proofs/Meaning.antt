@@ -19,7 +19,7 @@ use Rattle.rules_cost.specs.declared.Costs.{Costs}
 use Rattle.rules_run.specs.Run.{Ended, runRoom, ranWithin, ranTo}
 use Rattle.rules_cost.proofs.EdgeLaws.{eleven-suffice}
 use Rattle.rules_library.specs.Answers.{ranNumber, toldRoom, toldAnswer, toldPage, toldAfter}
-use Rattle.rules_library.specs.Slices.{edgeCount, priceCount, edgesOf, pricesOf, hasRoom, answerOf, ifWritten, edgesWith, pricesWith, edgesAfter, pricesAfter}
+use Rattle.rules_library.specs.Slices.{edgeCount, priceCount, edgesOf, pricesOf, hasRoom, putAnswer, ifWritten, edgesWith, pricesWith, edgesAfter, pricesAfter}
 
 -- the steps of a curve from accepted costs
 pub all-steps : (c : Costs) → costRefusal c ≡ 0 → length (costCurve c .steps) ≡ mostSteps
@@ -37,7 +37,7 @@ past d l i (x ∷ a) k h = past d (set l i x) (suc i) a k (omega arith) ∙ getD
 -- the slices after a curve with the number of its refusal
 module _ (edges : List ℕ) (prices : List ℤ) (n : ℕ) (curve : Curve) where
   -- the answer is 0 only where nothing is refused
-  pub zero-accepted : answerOf edges prices n ≡ pos 0 → n ≡ 0
+  pub zero-accepted : putAnswer edges prices n ≡ pos 0 → n ≡ 0
   zero-accepted = go (hasRoom edges prices)
     where
       go : (b : Bool) → cond b (pos n) (negsuc 0) ≡ pos 0 → n ≡ 0
@@ -46,10 +46,10 @@ module _ (edges : List ℕ) (prices : List ℤ) (n : ℕ) (curve : Curve) where
 
   -- what the written slice and the one before it have in common
   either : {A : Type 0} (d : A) (k : ℕ) (written before : List A) → (n ≡ 0 → getD written k d ≡ getD before k d)
-      → getD (ifWritten (answerOf edges prices n) written before) k d ≡ getD before k d
-  either {A} d k written before h = go (answerOf edges prices n) refl
+      → getD (ifWritten (putAnswer edges prices n) written before) k d ≡ getD before k d
+  either {A} d k written before h = go (putAnswer edges prices n) refl
     where
-      go : (r : ℤ) → answerOf edges prices n ≡ r → getD (ifWritten r written before) k d ≡ getD before k d
+      go : (r : ℤ) → putAnswer edges prices n ≡ r → getD (ifWritten r written before) k d ≡ getD before k d
       go (pos zero) e = h (zero-accepted e)
       go (pos (suc m)) e = refl
       go (negsuc m) e = refl

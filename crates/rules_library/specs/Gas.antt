@@ -6,7 +6,7 @@ use lib.ListN.{length}
 use Rattle.rules_cost.specs.declared.Costs.{Costs}
 use Rattle.rules_gas.specs.Book.{runIn}
 use Rattle.rules_gas.specs.Booked.{listRefusal, listCurve}
-use Rattle.rules_library.specs.Slices.{answerOf, edgesWith, pricesWith}
+use Rattle.rules_library.specs.Slices.{putAnswer, edgesWith, pricesWith}
 
 -- the list of a market's number: 0 is the day-ahead market and 1 real time, and any other has none
 abbrev pub listBy : ℕ → List ℕ → List ℕ → List ℕ
@@ -20,7 +20,7 @@ runCount market day ahead real = length (runIn day (listBy market ahead real))
 
 -- the default curve at the book's price: the answer and the two slices afterwards
 abbrev pub gasAnswer : List ℕ → List ℤ → ℕ → List ℕ → Costs → ℤ
-gasAnswer edges prices day l c = answerOf edges prices (listRefusal day l c)
+gasAnswer edges prices day l c = putAnswer edges prices (listRefusal day l c)
 
 abbrev pub gasEdges : List ℕ → List ℤ → ℕ → List ℕ → Costs → List ℕ
 gasEdges edges prices day l c = edgesWith edges prices (listRefusal day l c) (listCurve day l c)

@@ -74,9 +74,12 @@ priceCount = mostSteps
 abbrev pub hasRoom : List ℕ → List ℤ → Bool
 hasRoom edges prices = leb edgeCount (length edges) && leb priceCount (length prices)
 
--- the answer: the number of the refusal, 0 where there is none, or -1 where the room is too small
-abbrev pub answerOf : List ℕ → List ℤ → ℕ → ℤ
-answerOf edges prices n = cond (hasRoom edges prices) (pos n) (negsuc 0)
+-- an answer: the number of the refusal, 0 where there is none, or -1 where the room is too small
+abbrev pub answerOf : Bool → ℕ → ℤ
+answerOf room n = cond room (pos n) (negsuc 0)
+
+abbrev pub putAnswer : List ℕ → List ℤ → ℕ → ℤ
+putAnswer edges prices n = answerOf (hasRoom edges prices) n
 
 -- a slice is written only where the answer is 0
 abbrev pub ifWritten : {A : Type 0} → ℤ → List A → List A → List A
@@ -86,14 +89,14 @@ ifWritten (negsuc n) written before = before
 
 -- the two slices after a curve with the number of its refusal
 unfoldable pub edgesWith : List ℕ → List ℤ → ℕ → Curve → List ℕ
-edgesWith edges prices n curve = ifWritten (answerOf edges prices n) (sets edges 0 (edgesOf curve)) edges
+edgesWith edges prices n curve = ifWritten (putAnswer edges prices n) (sets edges 0 (edgesOf curve)) edges
 
 unfoldable pub pricesWith : List ℕ → List ℤ → ℕ → Curve → List ℤ
-pricesWith edges prices n curve = ifWritten (answerOf edges prices n) (sets prices 0 (pricesOf curve)) prices
+pricesWith edges prices n curve = ifWritten (putAnswer edges prices n) (sets prices 0 (pricesOf curve)) prices
 
 -- the same of the default curve from costs
 abbrev pub defaultAnswer : List ℕ → List ℤ → Costs → ℤ
-defaultAnswer edges prices c = answerOf edges prices (costRefusal c)
+defaultAnswer edges prices c = putAnswer edges prices (costRefusal c)
 
 abbrev pub edgesAfter : List ℕ → List ℤ → Costs → List ℕ
 edgesAfter edges prices c = edgesWith edges prices (costRefusal c) (costCurve c)

@@ -20,3 +20,4 @@ pub mod GasBooks
 pub mod Runs
 pub mod Programs
 pub mod Missing
+pub mod Numbers

@@ -1,6 +1,8 @@
-//! Prints what the first N seeds reach, of texts and of books: `coverage [N] [first seed]`.
+//! Prints what the first N seeds reach, of texts, of books and of lists of calls: `coverage [N] [first seed]`.
 
 use independent::coverage::books::BookCoverage;
+use independent::coverage::calls::CallCoverage;
+use independent::coverage::edges::Edges;
 use independent::coverage::Coverage;
 use std::process::ExitCode;
 use std::time::Instant;
@@ -29,6 +31,19 @@ fn print(coverage: &Coverage) {
     println!("refused on line 1 {}", coverage.refused_on_line_1);
     println!("hours opened {}", coverage.opened);
     println!("intervals accepted {}", coverage.accepted_intervals);
+    println!("parameters missing {}", coverage.parameters_missing);
+    println!(
+        "texts where a missing parameter decides {}",
+        coverage.missing_deciding
+    );
+    print_list("texts by bytes", 65_535, &coverage.sizes);
+    println!(
+        "texts of 65,536 bytes accepted whole {}",
+        coverage.full_texts_accepted_whole
+    );
+}
+
+fn print_constraints(coverage: &Coverage) {
     print_list("verdicts", 0, &coverage.verdicts);
     println!("constraints at equality {}", coverage.at_equality);
     println!("constraints one above equality {}", coverage.one_above);
@@ -43,11 +58,20 @@ fn print(coverage: &Coverage) {
         coverage.sellers_not_rising
     );
     println!("  with equal ones among them {}", coverage.equal_sellers);
+}
+
+fn print_curves(coverage: &Coverage) {
     println!("most steps in a curve {}", coverage.most_steps);
     println!("curves of 20 steps {}", coverage.curves_of_20_steps);
     println!("default curves split {}", coverage.split_segments);
-    println!("default curves with the mark at a point {}", coverage.marks_at_a_point);
-    println!("default curves of 11 steps {}", coverage.default_curves_of_11_steps);
+    println!(
+        "default curves with the mark at a point {}",
+        coverage.marks_at_a_point
+    );
+    println!(
+        "default curves of 11 steps {}",
+        coverage.default_curves_of_11_steps
+    );
     println!("curves with both parts {}", coverage.curves_with_both_parts);
     println!("curves cut {}", coverage.curves_cut);
     println!("curves cut further {}", coverage.curves_cut_further);
@@ -62,16 +86,29 @@ fn print(coverage: &Coverage) {
     );
     println!("components below 0 {}", coverage.components_negative);
     println!("prices below 0 {}", coverage.prices_negative);
-    println!("parameters missing {}", coverage.parameters_missing);
+}
+
+fn print_edges(edges: &Edges) {
+    println!("13 with 256 resources or more {}", edges.resources_past_255);
+    println!("  alike in eight bits {}", edges.resources_alike_in_8_bits);
+    println!("  with 256 constraints too {}", edges.both_past_255);
     println!(
-        "texts where a missing parameter decides {}",
-        coverage.missing_deciding
+        "14 with 256 constraints or more {}",
+        edges.constraints_past_255
     );
-    print_list("texts by bytes", 65_535, &coverage.sizes);
     println!(
-        "texts of 65,536 bytes accepted whole {}",
-        coverage.full_texts_accepted_whole
+        "  at most 32 in eight bits {}",
+        edges.constraints_few_in_8_bits
     );
+    println!("14 where 15 applies too {}", edges.both_14_and_15);
+    println!("constraints with the most demand {}", edges.most_demand);
+    println!("resource 63 of 64 cut {}", edges.last_of_64_cut);
+    println!("resource 63 of 64 refused {}", edges.last_of_64_refused);
+    println!(
+        "competitive prices below the lowest lmp {}",
+        edges.below_lowest_lmp
+    );
+    println!("  by 1,000,000,000 or more {}", edges.far_below_lowest_lmp);
 }
 
 fn print_books(books: &BookCoverage) {
@@ -101,15 +138,71 @@ fn print_books(books: &BookCoverage) {
     println!("accepted, own gas price outside {}", books.own_gas_unread);
 }
 
+fn print_calls(calls: &CallCoverage) {
+    println!("lists of calls {}", calls.lists);
+    print_list("opening refused (0: opened)", 0, &calls.openings);
+    println!("1, 2, 3, 11 for a pack {:?}", calls.packs_refused);
+    println!("a bid, its costs too {}", calls.costs_refused_too);
+    println!("a bid, its pack too {}", calls.packs_refused_too);
+    println!(
+        "more than 16 portfolios or 64 resources {}",
+        calls.counts_over_the_room
+    );
+    println!("resources with costs {}", calls.costs);
+    println!("resources with packs {}", calls.packs);
+    println!("  of 11 steps {}", calls.packs_of_11_steps);
+    println!(
+        "  with the furthest prices {}",
+        calls.packs_at_furthest_prices
+    );
+    println!("intervals accepted {}", calls.intervals[0]);
+    print_list("intervals refused", 12, &calls.intervals[12..17]);
+    println!("passes accepted {}", calls.passes[0]);
+    print_list("passes refused", 13, &calls.passes[13..]);
+    println!("  before any interval {}", calls.passes_too_early);
+    println!("  after three passes {}", calls.passes_too_many);
+    println!("causes answered {}", calls.causes[0]);
+    print_list("causes refused", 13, &calls.causes[13..17]);
+    print_effects(calls);
+}
+
+fn print_effects(calls: &CallCoverage) {
+    println!(
+        "calls accepted after a refused one {}",
+        calls.accepted_after_refused
+    );
+    println!("passes of a full hour {}", calls.passes_of_a_full_hour);
+    println!("curves cut by intervals {}", calls.cuts_in_intervals);
+    println!("  with a pack {}", calls.cuts_of_packs);
+    println!("curves cut by passes {}", calls.cuts_in_passes);
+    println!("  cut further {}", calls.further_cuts_in_passes);
+    println!("five-minute curves begun anew {}", calls.begun_anew);
+    println!("hour bids refused {}", calls.hour_bids_refused);
+    println!("hour bids {}", calls.hour_bids);
+    println!("  of unequal curves {}", calls.hour_bids_of_unequal_curves);
+    println!("causes of a cut {}", calls.causes_of_a_cut);
+    println!(
+        "components above 0, not dispatched {}",
+        calls.not_dispatched
+    );
+    println!("components below 0 {}", calls.components_negative);
+    println!("most steps in a curve {}", calls.most_steps);
+}
+
 fn main() -> ExitCode {
     let (count, first) = (argument(1, 20_000), argument(2, 0));
     let start = Instant::now();
     let coverage = Coverage::of(first..first + count);
     print(&coverage);
+    print_constraints(&coverage);
+    print_curves(&coverage);
+    print_edges(&coverage.edges);
     let books = BookCoverage::of(first..first + count);
     print_books(&books);
+    let calls = CallCoverage::of(first..first + count);
+    print_calls(&calls);
     println!("seconds {:.1}", start.elapsed().as_secs_f64());
-    match coverage.all_reached() && books.all_reached() {
+    match coverage.all_reached() && books.all_reached() && calls.all_reached() {
         true => ExitCode::SUCCESS,
         false => {
             println!("not all reached");

@@ -1,60 +1,121 @@
 -- `print::print_line` meets its contract. Assumes nothing.
-use Prim.Native.Nat.{ℕ, _+_}
+use Prim.Native.Nat.{ℕ, _+_, _≤_}
+use mathlib.Core.Path.{_≡_, sym, ap, ap₂, _∙_}
+use mathlib.Core.List.{[], _∷_}
 use native.Mathlib.Omega.{arith}
-use borrow.Author.Needs.{needs}
-use borrow.Author.Tests.{leb-true, not-true, not-false}
-use mathlib.Core.Path.{_≡_, sym, ap, _∙_}
-use mathlib.Core.List.{List}
-use lib.ListN.{length, take}
-use lib.Dec.{leb}
+use borrow.Author.Tests.{le-leb, not-false}
+use lib.ListN.{length, take, getD, length-take}
 use lib.Seq.{sets}
-use Rattle.rules_text.specs.Printing.{lineText, holds}
-use Rattle.rules_text.proofs.PrintLaws.{prints, prints-none, first-most}
+use lib.IntN.{ℤ, pos}
+use Rattle.rules_number.proofs.Kit.{rd, came}
+use Rattle.rules_text.specs.Numbers.{Row}
+use Rattle.rules_text.specs.Printing.{lineText}
+use Rattle.rules_text.proofs.PrintLaws.{prints, line-few}
+use Rattle.print.proofs.DigitLaws.{own-size, first-four}
+use borrow.Author.Needs.{needs}
 use Rattle.print.proofs.print_line.Statement.{statement}
 use Rattle.print.proofs.print_line.Tie as tie
 
-at-most-requires : tie.Need-at-most-requires
-at-most-requires c κs = search needs
-
-line-fits-requires : tie.Need-line-fits-requires
-line-fits-requires c κs = omega (arith, c .at-most .ensures)
-
-same : (c : tie.After-line-fits) → lineText (take (c .before .at-most .result) (c .before .before .before .args .v)) ≡ lineText (take (c .before .before .before .args .k) (c .before .before .before .args .v))
+-- the four values put are the first four
+same : (c : tie.After-slice-known4)
+    → let p = c .before .before in
+    let v = p .before .before .before .before .before .before .before .before .before .before .before .before .args .t3 in
+    (pos (p .before .before .magnitude .result) ∷ pos (p .before .magnitude2 .result) ∷ rd (getD v 2 (pos 0)) ∷ rd (getD v 3 (pos 0)) ∷ []) ≡ take (p .before .before .before .before .before .before .before .before .before .before .before .before .args .k) v
 same c =
-    let s = c .before .before .before in
-    let n : length (s .args .v) ≡ 5 = search needs in
-    ap (λ (j : ℕ). lineText (take j (s .args .v))) (c .before .at-most .ensures) ∙ ap lineText (first-most (s .args .v) (s .args .k) n)
+    let p = c .before .before in
+    let h = p .before .before .before .before .before in
+    let s = h .before .before .before .before .before .before .before in
+    let v = s .args .t3 in
+    let t = not-false (h .has-head .result) (p .before .before .before .before .if2 .left) in
+    let n : length v ≡ 5 = search needs in
+    let x = getD v 0 (pos 0) in
+    let y = getD v 1 (pos 0) in
+    let ex = ap pos (p .before .before .magnitude .ensures) ∙ own-size (rd x) (h .has-head .ensures .1 .0 t .0) ∙ came x (h .before .before .before .before .a .given) in
+    let ey = ap pos (p .before .magnitude2 .ensures) ∙ own-size (rd y) (h .has-head .ensures .1 .1 t .0) ∙ came y (h .before .before .before .b .given) in
+    ap₂ (λ (i j : ℤ). i ∷ j ∷ rd (getD v 2 (pos 0)) ∷ rd (getD v 3 (pos 0)) ∷ []) ex ey
+    ∙ ap₂ (λ (i j : ℤ). x ∷ y ∷ i ∷ j ∷ []) (came (getD v 2 (pos 0)) (h .before .before .c .given)) (came (getD v 3 (pos 0)) (h .before .d .given))
+    ∙ sym (first-four v n) ∙ ap (λ (j : ℕ). take j v) (sym (h .before .before .before .before .before .if1 .left))
 
--- the test is whether the line fits
-tests : (c : tie.After-line-fits) → c .line-fits .result ≡ holds (c .before .before .before .args .out .now) (c .before .before .before .args .at) (lineText (take (c .before .before .before .args .k) (c .before .before .before .args .v)))
-tests c =
-    let a = c .before .before .before .args in
-    c .line-fits .ensures ∙ ap (λ (l : List ℕ). leb (a .at + length l) (length (a .out .now))) (same c)
-
-returns : tie.Need-returns
-returns c =
-    let a = c .before .before .before .before .args in
-    prints-none (a .out .now) (a .at) (lineText (take (a .k) (a .v))) (sym (tests (c .before)) ∙ not-true (c .before .line-fits .result) (c .if1 .taken))
-
-put-line-requires : tie.Need-put-line-requires
-put-line-requires c κs =
-    let r = c .before .before in
-    let a = r .before .before .before .args in (
-      omega (arith, r .before .at-most .ensures),
-      leb-true (a .at + length (lineText (take (r .before .at-most .result) (a .v)))) (length (a .out .now))
-          (ap (λ (l : List ℕ). leb (a .at + length l) (length (a .out .now))) (same r) ∙ sym (tests r) ∙ not-false (r .line-fits .result) (c .before .if1 .left)),
-    )
+print-any-requires : tie.Need-print-any-requires
+print-any-requires c κs = search needs
 
 same-length : tie.Need-same-length
 same-length c = search needs
 
+returns : tie.Need-returns
+returns c = search needs
+
+array-copy-out-a : tie.Need-array-copy-out-a
+array-copy-out-a c = search needs
+
+array-copy-out-b : tie.Need-array-copy-out-b
+array-copy-out-b c = search needs
+
+array-copy-out-c : tie.Need-array-copy-out-c
+array-copy-out-c c = search needs
+
+array-copy-out-d : tie.Need-array-copy-out-d
+array-copy-out-d c = search needs
+
+has-head-requires : tie.Need-has-head-requires
+has-head-requires c κs = search needs
+
+print-any-requires-2 : tie.Need-print-any-requires-2
+print-any-requires-2 c κs = search needs
+
+same-length-2 : tie.Need-same-length-2
+same-length-2 c = search needs
+
 returns-2 : tie.Need-returns-2
-returns-2 c =
+returns-2 c = search needs
+
+magnitude-requires : tie.Need-magnitude-requires
+magnitude-requires c κs = search needs
+
+magnitude-requires-2 : tie.Need-magnitude-requires-2
+magnitude-requires-2 c κs = search needs
+
+put-step-requires : tie.Need-put-step-requires
+put-step-requires c κs =
+    let h = c .before .before .before .before in
+    let t = not-false (h .has-head .result) (c .before .before .before .if2 .left) in
+    (omega (arith, c .before .magnitude .ensures, h .has-head .ensures .1 .0 t .1), omega (arith, c .magnitude2 .ensures, h .has-head .ensures .1 .1 t .1), h .has-head .ensures .0 t)
+
+same-length-3 : tie.Need-same-length-3
+same-length-3 c = search needs
+
+returns-3 : tie.Need-returns-3
+returns-3 c =
     let p = c .before .before in
-    let r = p .before .before .before in
-    let a = r .before .before .before .args in
-    prints (a .out .now) (a .at) (lineText (take (a .k) (a .v))) (p .put-line .last .0) (p .put-line .result) (sym (tests r) ∙ not-false (r .line-fits .result) (p .before .before .if1 .left))
-    (p .put-line .ensures .0 ∙ ap (sets (a .out .now) (a .at)) (same r)) (p .put-line .ensures .1 ∙ ap (λ (l : List ℕ). a .at + length l) (same r))
+    let h = p .before .before .before .before .before in
+    let s = h .before .before .before .before .before .before .before in
+    let a = s .args in
+    let t = not-false (h .has-head .result) (p .before .before .before .before .if2 .left) in
+    let text = lineText (take (a .k) (a .t3)) in
+    let n : length (a .t3) ≡ 5 = search needs in
+    let k : a .k ≡ 4 = h .before .before .before .before .before .if1 .left in
+    let few : length text ≤ 84 = omega (arith, line-few (take (a .k) (a .t3)), length-take (a .k) (a .t3)) in
+    let e = same c in
+    prints (a .out .now) (a .at) text (p .put-step .last .0) (p .put-step .result) (le-leb (a .at + length text) (length (a .out .now)) (omega (arith, few, h .has-head .ensures .0 t)))
+    (p .put-step .ensures .0 ∙ ap (λ (l : Row). sets (a .out .now) (a .at) (lineText l)) e) (p .put-step .ensures .1 ∙ ap (λ (l : Row). a .at + length (lineText l)) e)
 
 pub print-line-spec : {M : Type 1} → statement M
-print-line-spec = tie.close (tie.spec at-most-requires line-fits-requires returns put-line-requires same-length returns-2)
+print-line-spec =
+    tie.close
+    (tie.spec
+    print-any-requires
+    same-length
+    returns
+    array-copy-out-a
+    array-copy-out-b
+    array-copy-out-c
+    array-copy-out-d
+    has-head-requires
+    print-any-requires-2
+    same-length-2
+    returns-2
+    magnitude-requires
+    magnitude-requires-2
+    put-step-requires
+    same-length-3
+    returns-3)

@@ -2,14 +2,15 @@
 use Prim.Native.Nat.{ℕ, _+_, _-_, _<_}
 use native.Mathlib.Omega.{arith}
 use borrow.Author.Needs.{needs}
-use mathlib.Core.Path.{_≡_, refl, sym, ap, _∙_}
-use mathlib.Core.List.{List}
+use mathlib.Core.Path.{_≡_, refl, sym, ap, subst, _∙_}
+use mathlib.Core.List.{List, [], _∷_, _++_}
 use lib.ListN.{length, take, getD}
 use lib.Seq.{sets, getD-take}
 use lib.IntN.{ℤ, pos}
 use Rattle.rules_number.proofs.Kit.{rd, came}
 use Rattle.rules_text.specs.Numbers.{closing}
 use Rattle.rules_text.specs.Printing.{decimal}
+use Rattle.rules_text.proofs.ListLaws.{sets-append}
 use Rattle.rules_text.proofs.PrintLaws.{Lining, lining-start, lining-room, lining-more, lining-done, first-length}
 use Rattle.print.proofs.put_line.Statement.{statement}
 use Rattle.print.proofs.put_line.Tie as tie
@@ -52,52 +53,39 @@ fits c =
     let s = l .before .before in
     lining-room (s .args .out .now) (s .args .at) (values l) (l .loop .out) (l .loop .p) (l .loop .i) (l .loop .inv) (omega (arith, long l, c .before .loop-test .taken)) (s .pre .1)
 
-put-number-requires : tie.Need-put-number-requires Inv-loop μ-loop
-put-number-requires c κs = omega (arith, fits (c .before), ap (λ (z : ℤ). length (decimal z)) (value (c .before)))
-
 sub-closing : tie.Need-sub-closing Inv-loop μ-loop
-sub-closing c = omega arith
+sub-closing c = omega (arith, c .before .before .loop-test .taken)
 
 sub-closing-2 : tie.Need-sub-closing-2 Inv-loop μ-loop
-sub-closing-2 c = omega arith
+sub-closing-2 c = omega (arith, c .before .before .loop-test .taken)
 
 closing-requires : tie.Need-closing-requires Inv-loop μ-loop
 closing-requires c κs = search needs
 
--- the number put, and the offset after it
-ends : (c : tie.After-put-number Inv-loop μ-loop)
-    → (c .put-number .last .0 ≡ sets (c .before .before .before .before .loop .out) (c .before .before .before .before .loop .p) (decimal (getD (values (c .before .before .before .before)) (c .before .before .before .before .loop .i) (pos 0))))
-    × (c .put-number .result ≡ c .before .before .before .before .loop .p + length (decimal (getD (values (c .before .before .before .before)) (c .before .before .before .before .loop .i) (pos 0))))
-ends c =
-    let l = c .before .before .before .before in
-    let e = value (c .before .before) in
-    (c .put-number .ensures .0 ∙ ap (λ (z : ℤ). sets (l .loop .out) (l .loop .p) (decimal z)) e, c .put-number .ensures .1 ∙ ap (λ (z : ℤ). l .loop .p + length (decimal z)) e)
-
-slice-write-out : tie.Need-slice-write-out Inv-loop μ-loop
-slice-write-out c =
-    let p = c .before .before .before in
-    omega (arith, p .put-number .kept .0, ends p .1, fits (p .before .before))
-
-add-p : tie.Need-add-p Inv-loop μ-loop
-add-p c =
-    let p = c .before .before .before in
-    let l = p .before .before .before .before in
-    omega (arith, ends p .1, fits (p .before .before), l .loop .inv .long, l .before .before .good)
+put-value-requires : tie.Need-put-value-requires Inv-loop μ-loop
+put-value-requires c κs = omega (arith, fits (c .before .before), ap (λ (z : ℤ). length (decimal z)) (value (c .before .before)))
 
 add-i : tie.Need-add-i Inv-loop μ-loop
-add-i c = let l = c .before .before .before .before .before .before .before in omega (arith, c .before .before .before .before .before .before .loop-test .taken, l .before .before .pre .0)
+add-i c = omega (arith, c .before .before .before .before .before .before .loop-test .taken, c .before .before .before .before .before .before .before .before .before .pre .0)
 
 loop-less : tie.Need-loop-less Inv-loop μ-loop
 loop-less c = omega (arith, c .before .before .before .before .before .before .loop-test .taken)
 
 loop-again : tie.Need-loop-again Inv-loop μ-loop
 loop-again c =
-    let p = c .before .before .before in
-    let l = p .before .before .before .before in
-    let s = l .before .before in
-    let b = c .closing .ensures ∙ ap (λ (n : ℕ). closing (n - l .loop .i - 1)) (sym (long l)) in
-    lining-more (s .args .out .now) (s .args .at) (values l) (l .loop .out) (l .loop .p) (l .loop .i) (l .loop .inv) (omega (arith, long l, p .before .before .before .loop-test .taken))
-    (p .put-number .last .0) _ (p .put-number .result) (c .closing .result) (ends p .0) (ends p .1) b refl
+    let p = c .before .before in
+    let b = p .before .closing .result in
+    let l = c .before .before .before .before .before .before .before in
+    let s = c .before .before .before .before .before .before .before .before .before in
+    let x = values l in
+    let i = l .loop .i in
+    let d = decimal (getD x i (pos 0)) in
+    let e = value (c .before .before .before .before .before) in
+    let g = p .before .closing .ensures ∙ ap (λ (n : ℕ). closing (n - i - 1)) (sym (long l)) in
+    let h = p .put-value .ensures .0 ∙ ap (λ (z : ℤ). sets (l .loop .out) (l .loop .p) (decimal z ++ (b ∷ []))) e ∙ sets-append (l .loop .out) (l .loop .p) d (b ∷ []) in
+    subst (λ (q : ℕ). Lining (s .args .out .now) (s .args .at) x (p .put-value .last .0) q (i + 1)) (sym (p .put-value .ensures .1 ∙ ap (λ (z : ℤ). l .loop .p + length (decimal z) + 1) e))
+    (lining-more (s .args .out .now) (s .args .at) x (l .loop .out) (l .loop .p) i (l .loop .inv) (omega (arith, long l, c .before .before .before .before .before .before .loop-test .taken))
+    (sets (l .loop .out) (l .loop .p) d) (p .put-value .last .0) (l .loop .p + length d) b refl refl g h)
 
 same-length : tie.Need-same-length Inv-loop μ-loop
 same-length c = c .before .loop .inv .long
@@ -117,12 +105,10 @@ put-line-spec =
     loop-holds
     mul-x
     array-copy-out-x
-    put-number-requires
     sub-closing
     sub-closing-2
     closing-requires
-    slice-write-out
-    add-p
+    put-value-requires
     add-i
     loop-less
     loop-again

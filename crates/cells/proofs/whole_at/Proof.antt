@@ -1,0 +1,19 @@
+-- `cells::whole_at` meets its contract. Assumes nothing.
+use mathlib.Core.Path.{ap, _∙_}
+use borrow.Author.Needs.{needs}
+use Rattle.rules_number.specs.Order.{natOf}
+use Rattle.rules_number.proofs.Kit.{came}
+use Rattle.cells.proofs.whole_at.Statement.{statement}
+use Rattle.cells.proofs.whole_at.Tie as tie
+
+cell-at-requires : tie.Need-cell-at-requires
+cell-at-requires c κs = search needs
+
+whole-requires : tie.Need-whole-requires
+whole-requires c κs = search needs
+
+returns : tie.Need-returns
+returns c = let e = c .before .cell-at in c .whole .ensures ∙ ap natOf (came (e .result) (e .ok) ∙ e .ensures)
+
+pub whole-at-spec : {M : Type 1} → statement M
+whole-at-spec = tie.close (tie.spec cell-at-requires whole-requires returns)

@@ -1,0 +1,58 @@
+-- Laws of curves put into cells. Assumes nothing.
+use Prim.Native.Nat.{ℕ, suc, _+_}
+use mathlib.Core.Path.{_≡_, sym, ap, _∙_}
+use mathlib.Core.List.{List, map}
+use native.Mathlib.Omega.{arith}
+use lib.IntN.{ℤ}
+use lib.ListN.{length, set, length-map, length-append}
+use lib.Seq.{sets}
+use Rattle.rules_curve.specs.Curves.{mostSteps}
+use Rattle.rules_curve.specs.declared.Curve.{Curve}
+use Rattle.rules_opening.specs.declared.Row.{Row}
+use Rattle.rules_text.proofs.ListLaws.{sets-append}
+use Rattle.rules_state.specs.Layout.{curveRoom, rowRoom}
+use Rattle.rules_state.specs.States.{cellOf, curveCells, rowCells}
+
+-- the ends and the prices of a curve as cells
+abbrev pub endsOf : Curve → List ℤ
+endsOf c = map (λ s. cellOf (s .end)) (c .steps)
+
+abbrev pub pricesOf : Curve → List ℤ
+pricesOf c = map (λ s. s .price) (c .steps)
+
+module _ (c : Curve) (eleven : length (c .steps) ≡ mostSteps) where
+  ends-length : length (endsOf c) ≡ mostSteps
+  ends-length = simp length-map eleven
+
+  prices-length : length (pricesOf c) ≡ mostSteps
+  prices-length = simp length-map eleven
+
+  pub curve-length : length (curveCells c) ≡ curveRoom
+  unfolding curveCells
+  curve-length = let e = ends-length in let p = prices-length in let z = length-append (endsOf c) (pricesOf c) in omega arith
+
+  -- count, start, ends and prices put one after the other
+  pub curve-put : (s counted started ended out : List ℤ) (at : ℕ) → counted ≡ set s at (cellOf (c .count)) → started ≡ set counted (at + 1) (cellOf (c .start))
+      → ended ≡ sets started (at + 2) (endsOf c) → out ≡ sets ended (at + 2 + mostSteps) (pricesOf c) → out ≡ sets s at (curveCells c)
+  unfolding curveCells
+  curve-put s counted started ended out at n b e p =
+      let one : at + 1 ≡ suc at = omega arith in
+      let two : at + 2 ≡ suc (suc at) = omega arith in
+      let far : at + 2 + mostSteps ≡ suc (suc at) + length (endsOf c) = let k = ends-length in omega arith in
+      let head = set (set s at (cellOf (c .count))) (suc at) (cellOf (c .start)) in
+      let h : started ≡ head = b ∙ ap (λ (l : List ℤ). set l (at + 1) (cellOf (c .start))) n ∙ ap (λ (i : ℕ). set (set s at (cellOf (c .count))) i (cellOf (c .start))) one in
+      let g : ended ≡ sets head (suc (suc at)) (endsOf c) = e ∙ ap (λ (l : List ℤ). sets l (at + 2) (endsOf c)) h ∙ ap (λ (i : ℕ). sets head i (endsOf c)) two in
+      p ∙ ap (λ (l : List ℤ). sets l (at + 2 + mostSteps) (pricesOf c)) g ∙ ap (λ (i : ℕ). sets (sets head (suc (suc at)) (endsOf c)) i (pricesOf c)) far
+      ∙ sym (sets-append head (suc (suc at)) (endsOf c) (pricesOf c))
+
+-- the bid and the default curve of a row, put one after the other
+module _ (x : Row) (bid : length (curveCells (x .bid)) ≡ curveRoom) (default : length (curveCells (x .default)) ≡ curveRoom) where
+  pub row-length : length (rowCells x) ≡ rowRoom
+  unfolding rowCells
+  row-length = let z = length-append (curveCells (x .bid)) (curveCells (x .default)) in omega arith
+
+  pub row-put : (s first out : List ℤ) (at : ℕ) → first ≡ sets s at (curveCells (x .bid)) → out ≡ sets first (at + curveRoom) (curveCells (x .default)) → out ≡ sets s at (rowCells x)
+  unfolding rowCells
+  row-put s first out at e f =
+      f ∙ ap (λ (l : List ℤ). sets l (at + curveRoom) (curveCells (x .default))) e ∙ ap (λ (i : ℕ). sets (sets s at (curveCells (x .bid))) (at + i) (curveCells (x .default))) (sym bid)
+      ∙ sym (sets-append s at (curveCells (x .bid)) (curveCells (x .default)))

@@ -1,0 +1,2 @@
+-- Laws of curves in cells.
+pub mod CurveLaws

@@ -1,0 +1,2 @@
+-- Laws of the curves of a state.
+pub mod StateCurveLaws

@@ -1,0 +1,3 @@
+-- Laws of what an accepted call leaves, and of the answers of opening.
+pub mod IntervalLaws
+pub mod OpenLaws

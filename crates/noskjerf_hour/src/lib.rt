@@ -1,0 +1,95 @@
+// An hour in numbers for programs in other languages, under C names: the caller keeps its state in a lent slice, and every content of it has a meaning. The contracts
+// cite the definitions of rules_state.
+use rules_curve::Outcome;
+ghost use mathlib.Core.Path.{_≡_};
+ghost use Rattle.rules_state.specs.Layout.{stateRoom};
+ghost use Rattle.rules_state.specs.Openings.{openingIn};
+ghost use Rattle.rules_state.specs.Intervals.{intervalIn};
+ghost use Rattle.rules_state.specs.Calls.{openAnswer, stateOpened, intervalAnswer, stateAfterInterval, verdictsAfterInterval};
+
+// How many numbers the state of an hour has.
+#[no_mangle]
+pub extern "C" fn noskjerf_state_room() -> usize
+    ensures { λ r. ⌜ r ≡ stateRoom ⌝ }
+{
+    rules_state::STATE_ROOM
+}
+
+// Opens an hour. `sellers` has the mark of each portfolio, and `blocks` 80 numbers of each resource in turn; numbers past their ends count as 0. Answers 0 and puts
+// the opened hour into the state; or answers the number of a refusal, or -1 where the state has too few numbers, and leaves it as it was.
+#[no_mangle]
+pub extern "C" fn noskjerf_open(
+    month: i64,
+    portfolios: usize,
+    sellers: &[i64],
+    resources: usize,
+    blocks: &[i64],
+    state: &mut [i64],
+) -> i64
+    ensures answer { λ r. ⌜ r ≡ openAnswer (now (state .entry)) (openingIn month portfolios (now (sellers .entry)) resources (now (blocks .entry))) ⌝ }
+    ensures state { λ r. ⌜ now (state .exit) ≡ stateOpened (now (state .entry)) (openingIn month portfolios (now (sellers .entry)) resources (now (blocks .entry))) ⌝ }
+{
+    if state.len() < rules_state::STATE_ROOM {
+        return -1;
+    }
+    let opening = opening_cells::opening_in(month, portfolios, sellers, resources, blocks);
+    let entered = opening::entered(opening);
+    let outcome = entered.outcome;
+    if let Outcome::Refused(refusal) = outcome {
+        return curve::refusal_number(refusal) as i64;
+    }
+    let market = entered.market;
+    let rows = entered.rows;
+    state_puts::put_standing(state, standing::fresh());
+    state_puts::put_quarter(state, standing::fresh_quarter());
+    market_puts::put_market(state, market);
+    market_puts::put_rows(state, rows);
+    0
+}
+
+// Takes an interval. `outputs` has locational price, dispatch, available and floor of each resource in turn, `factors` the factor of resource r on constraint c at
+// 32 r + c; numbers past a slice's end count as 0. Answers 0, puts the hour after it into the state and the verdicts into `verdicts`; or answers the number of a
+// refusal, or -1 where the state or `verdicts` has too few numbers, and leaves both as they were.
+#[no_mangle]
+pub extern "C" fn noskjerf_interval(
+    state: &mut [i64],
+    constraints: usize,
+    shadow: &[i64],
+    resources: usize,
+    outputs: &[i64],
+    factors: &[i64],
+    parameter: i64,
+    verdicts: &mut [i64],
+) -> i64
+    ensures answer { λ r. ⌜ r ≡ intervalAnswer (now (state .entry)) (now (verdicts .entry)) (intervalIn constraints (now (shadow .entry)) resources (now (outputs .entry)) (now (factors .entry)) parameter) ⌝ }
+    ensures state { λ r. ⌜ now (state .exit) ≡ stateAfterInterval (now (state .entry)) (now (verdicts .entry)) (intervalIn constraints (now (shadow .entry)) resources (now (outputs .entry)) (now (factors .entry)) parameter) ⌝ }
+    ensures verdicts { λ r. ⌜ now (verdicts .exit) ≡ verdictsAfterInterval (now (state .entry)) (now (verdicts .entry)) (intervalIn constraints (now (shadow .entry)) resources (now (outputs .entry)) (now (factors .entry)) parameter) ⌝ }
+{
+    if state.len() < rules_state::STATE_ROOM {
+        return -1;
+    }
+    if verdicts.len() < rules_state::VERDICT_ROOM {
+        return -1;
+    }
+    let v = interval_cells::interval_in(
+        constraints,
+        shadow,
+        resources,
+        outputs,
+        factors,
+        parameter,
+    );
+    let standing = state_cells::standing_in(state);
+    let market = market_cells::market_in(state);
+    let taken = taking::take_interval(standing, market, v);
+    let outcome = taken.outcome;
+    if let Outcome::Refused(refusal) = outcome {
+        return curve::refusal_number(refusal) as i64;
+    }
+    let left = taken.standing;
+    let found = taken.verdicts;
+    state_puts::put_standing(state, left);
+    state_puts::put_quarter(state, standing::fresh_quarter());
+    verdict_cells::put_verdicts(verdicts, found);
+    0
+}

@@ -1,0 +1,2 @@
+-- Laws of what an accepted pass leaves.
+pub mod PassLaws

@@ -1,0 +1,2 @@
+-- Laws of the answers, one for each way out.
+pub mod WhyLaws

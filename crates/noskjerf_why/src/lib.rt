@@ -1,0 +1,60 @@
+// Why an interval cuts the resources of an hour or not, for programs in other languages, under a C name: the state is only read. The contracts cite the definitions of
+// rules_state.
+use rules_curve::Outcome;
+ghost use mathlib.Core.Path.{_≡_};
+ghost use Rattle.rules_state.specs.Intervals.{intervalIn};
+ghost use Rattle.rules_state.specs.Calls.{whyAnswer, causesAfter};
+
+// Why an interval, with what noskjerf_interval takes, cuts each resource or not. Answers 0 and puts four numbers of each of 64 resources into `causes`: 1 where it is
+// cut, else 0; its component; its competitive price; its floor price, 0 where it isn't cut. Or answers the number of a refusal, 13 to 16, or -1 where the state or
+// `causes` has too few numbers, and leaves `causes` as it was.
+#[no_mangle]
+pub extern "C" fn noskjerf_why(
+    state: &[i64],
+    constraints: usize,
+    shadow: &[i64],
+    resources: usize,
+    outputs: &[i64],
+    factors: &[i64],
+    parameter: i64,
+    causes: &mut [i64],
+) -> i64
+    ensures answer { λ r. ⌜ r ≡ whyAnswer (now (state .entry)) (now (causes .entry)) (intervalIn constraints (now (shadow .entry)) resources (now (outputs .entry)) (now (factors .entry)) parameter) ⌝ }
+    ensures causes { λ r. ⌜ now (causes .exit) ≡ causesAfter (now (state .entry)) (now (causes .entry)) (intervalIn constraints (now (shadow .entry)) resources (now (outputs .entry)) (now (factors .entry)) parameter) ⌝ }
+{
+    if state.len() < rules_state::STATE_ROOM {
+        return -1;
+    }
+    if causes.len() < rules_state::CAUSE_ROOM {
+        return -1;
+    }
+    let v = interval_cells::interval_in(
+        constraints,
+        shadow,
+        resources,
+        outputs,
+        factors,
+        parameter,
+    );
+    let market = market_cells::market_in(state);
+    let added = v.parameter;
+    let found = cutting::causes_of(
+        market,
+        v.constraints,
+        &v.shadow,
+        v.resources,
+        &v.lmp,
+        &v.dispatch,
+        &v.available,
+        &v.floor,
+        &v.factors,
+        added,
+    );
+    let outcome = found.outcome;
+    if let Outcome::Refused(refusal) = outcome {
+        return curve::refusal_number(refusal) as i64;
+    }
+    let list = found.list;
+    causes::put_causes(causes, list);
+    0
+}

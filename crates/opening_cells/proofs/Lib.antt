@@ -1,0 +1,2 @@
+-- Laws of the blocks of an opening.
+pub mod BlockLaws

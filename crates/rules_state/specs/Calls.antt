@@ -1,0 +1,69 @@
+-- The calls on a state: what each answers, and the lent slices afterwards.
+use mathlib.Core.Bool.{Bool, _&&_}
+use mathlib.Core.List.{List, _++_}
+use Prim.Native.Nat.{ℕ}
+use lib.Dec.{leb}
+use lib.IntN.{ℤ}
+use lib.ListN.{length}
+use lib.Seq.{sets}
+use Rattle.rules_interval.specs.Intervals.{intervalRefusal}
+use Rattle.rules_interval.specs.declared.Interval.{Interval}
+use Rattle.rules_opening.specs.Openings.{openingRefusal}
+use Rattle.rules_opening.specs.declared.Opening.{Opening}
+use Rattle.rules_hour.specs.Hours.{standingAfter, callRefusal, callVerdicts}
+use Rattle.rules_pass.specs.Passes.{freshQuarter, turnRefusal, quarterAfter, turnVerdicts, openedRealTime}
+use Rattle.rules_library.specs.Slices.{answerOf, ifWritten}
+use Rattle.rules_state.specs.Layout.{quarterFrom, stateRoom, verdictRoom, causeRoom}
+use Rattle.rules_state.specs.States.{standingIn, quarterIn, marketIn, standingCells, quarterCells, stateCells}
+use Rattle.rules_state.specs.Verdicts.{verdictsCells}
+use Rattle.rules_state.specs.Causes.{causesCells}
+
+-- A call answers -1 where a lent slice is too short, else the number of the refusal, 0 where there is none. A slice is written only where the answer is 0.
+
+-- a slice has room for so many numbers
+abbrev pub holds : {A : Type 0} → ℕ → List A → Bool
+holds n l = leb n (length l)
+
+-- ---- opening
+unfoldable pub openAnswer : List ℤ → Opening → ℤ
+openAnswer state o = answerOf (holds stateRoom state) (openingRefusal o)
+
+unfoldable pub stateOpened : List ℤ → Opening → List ℤ
+stateOpened state o = ifWritten (openAnswer state o) (sets state 0 (stateCells (openedRealTime o))) state
+
+-- ---- an interval: standing and quarter hour are written anew, market and rows are not touched
+unfoldable pub intervalAnswer : List ℤ → List ℤ → Interval → ℤ
+intervalAnswer state verdicts v = answerOf (holds stateRoom state && holds verdictRoom verdicts) (callRefusal (marketIn state) (standingIn state) v)
+
+abbrev pub intervalWritten : List ℤ → Interval → List ℤ
+intervalWritten state v = sets state 0 (standingCells (standingAfter (marketIn state) (standingIn state) v) ++ quarterCells freshQuarter)
+
+unfoldable pub stateAfterInterval : List ℤ → List ℤ → Interval → List ℤ
+stateAfterInterval state verdicts v = ifWritten (intervalAnswer state verdicts v) (intervalWritten state v) state
+
+unfoldable pub verdictsAfterInterval : List ℤ → List ℤ → Interval → List ℤ
+verdictsAfterInterval state verdicts v =
+    ifWritten (intervalAnswer state verdicts v) (sets verdicts 0 (verdictsCells (callVerdicts (marketIn state) (standingIn state) v))) verdicts
+
+-- ---- a pass: the quarter hour alone is written anew
+unfoldable pub passAnswer : List ℤ → List ℤ → Interval → ℤ
+passAnswer state verdicts v =
+    answerOf (holds stateRoom state && holds verdictRoom verdicts) (turnRefusal (marketIn state) (standingIn state .accepted) (quarterIn state) v)
+
+abbrev pub passWritten : List ℤ → Interval → List ℤ
+passWritten state v = sets state quarterFrom (quarterCells (quarterAfter (marketIn state) (standingIn state .accepted) (quarterIn state) v))
+
+unfoldable pub stateAfterPass : List ℤ → List ℤ → Interval → List ℤ
+stateAfterPass state verdicts v = ifWritten (passAnswer state verdicts v) (passWritten state v) state
+
+unfoldable pub verdictsAfterPass : List ℤ → List ℤ → Interval → List ℤ
+verdictsAfterPass state verdicts v =
+    ifWritten (passAnswer state verdicts v)
+    (sets verdicts 0 (verdictsCells (turnVerdicts (marketIn state) (standingIn state .accepted) (quarterIn state) v))) verdicts
+
+-- ---- why: 13 to 16, and the state is only read
+unfoldable pub whyAnswer : List ℤ → List ℤ → Interval → ℤ
+whyAnswer state causes v = answerOf (holds stateRoom state && holds causeRoom causes) (intervalRefusal (marketIn state .resources) v)
+
+unfoldable pub causesAfter : List ℤ → List ℤ → Interval → List ℤ
+causesAfter state causes v = ifWritten (whyAnswer state causes v) (sets causes 0 (causesCells (marketIn state) v)) causes

@@ -1,0 +1,2 @@
+-- Laws of floor prices in cells.
+pub mod FloorLaws

@@ -1,0 +1,87 @@
+-- `state_puts::put_prices` meets its contract. Assumes nothing.
+use Prim.Native.Nat.{_+_, _-_, _≤_}
+use mathlib.Core.Path.{_≡_, refl, ap, _∙_}
+use native.Mathlib.Omega.{arith}
+use borrow.Author.Needs.{needs}
+use lib.ListN.{length, length-set}
+use Rattle.rules_number.proofs.Kit.{rd, came}
+use Rattle.rules_hour.specs.Hours.{uncut}
+use Rattle.rules_hour.specs.declared.Floor.{Floor}
+use Rattle.rules_state.specs.Layout.{mostResources}
+use Rattle.rules_state.specs.States.{priceOf}
+use Rattle.cells.proofs.PutLaws.{Left, begins, goes-on, ends}
+use Rattle.state_puts.proofs.put_prices.Statement.{statement}
+use Rattle.state_puts.proofs.put_prices.Tie as tie
+
+abbrev Inv-loop : tie.InvT-loop
+Inv-loop state₀ at floors r₀ state r = (r ≤ mostResources) × (length state ≡ length state₀) × Left (λ (f : Floor). priceOf (f .price)) floors state₀ at state r
+
+abbrev μ-loop : tie.MeasureT-loop
+μ-loop state₀ at floors r₀ state r = mostResources - r
+
+many : (c : tie.Start Inv-loop μ-loop) → length (c .args .t3) ≡ mostResources
+many c = search needs
+
+loop-holds : tie.Need-loop-holds Inv-loop μ-loop
+loop-holds c = (omega arith, refl, begins (λ (f : Floor). priceOf (f .price)) (c .args .t3) (c .args .state .now) (c .args .at))
+
+mul-floor : tie.Need-mul-floor Inv-loop μ-loop
+mul-floor c = search needs
+
+array-copy-out-floor : tie.Need-array-copy-out-floor Inv-loop μ-loop
+array-copy-out-floor c = search needs
+
+add-put : tie.Need-add-put Inv-loop μ-loop
+add-put c = search needs
+
+price-of-requires : tie.Need-price-of-requires Inv-loop μ-loop
+price-of-requires c κs = search needs
+
+put-requires : tie.Need-put-requires Inv-loop μ-loop
+put-requires c κs = search needs
+
+add-r : tie.Need-add-r Inv-loop μ-loop
+add-r c = search needs
+
+loop-less : tie.Need-loop-less Inv-loop μ-loop
+loop-less c = search needs
+
+loop-again : tie.Need-loop-again Inv-loop μ-loop
+loop-again c =
+    let p = c .before in
+    let m = p .before in
+    let l = m .before .before .before .before in
+    let a = l .before .args in
+    let x = rd (m .price-of .result) in (
+      omega arith,
+      ap length (p .put .ensures) ∙ length-set (l .loop .state) (a .at + l .loop .r) x ∙ l .loop .inv .1,
+      goes-on (λ (f : Floor). priceOf (f .price)) (a .t3) (a .state .now) (a .at) uncut (l .loop .state) (l .loop .r) _ x (l .loop .inv .2) (omega (arith, many (l .before))) (p .put .ensures)
+          (came (m .price-of .result) (m .price-of .ok) ∙ m .price-of .ensures),
+    )
+
+same-length : tie.Need-same-length Inv-loop μ-loop
+same-length c = c .before .loop .inv .1
+
+returns : tie.Need-returns Inv-loop μ-loop
+returns c =
+    let l = c .before in
+    let a = l .before .args in
+    ends (λ (f : Floor). priceOf (f .price)) (a .t3) (a .state .now) (a .at) (l .loop .state) (l .loop .r) (l .loop .inv .2) (omega (arith, many (l .before)))
+
+pub put-prices-spec : {M : Type 1} → statement M
+put-prices-spec =
+    tie.close
+    (tie.spec
+    Inv-loop
+    μ-loop
+    loop-holds
+    mul-floor
+    array-copy-out-floor
+    add-put
+    price-of-requires
+    put-requires
+    add-r
+    loop-less
+    loop-again
+    same-length
+    returns)

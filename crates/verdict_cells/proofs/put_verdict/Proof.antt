@@ -1,0 +1,86 @@
+-- `verdict_cells::put_verdict` meets its contract. Assumes nothing.
+use Prim.Native.Nat.{ℕ}
+use mathlib.Core.Path.{_≡_, ap, _∙_}
+use borrow.Author.Needs.{needs}
+use lib.ListN.{length, set}
+use Rattle.rules_state.specs.Layout.{mostPortfolios}
+use Rattle.rules_state.specs.States.{cellOf}
+use Rattle.verdict_cells.proofs.VerdictLaws.{verdict-length, verdict-put}
+use Rattle.verdict_cells.proofs.put_verdict.Statement.{statement}
+use Rattle.verdict_cells.proofs.put_verdict.Tie as tie
+
+sixteen : (c : tie.Start) → length (c .args .verdict .withheld) ≡ mostPortfolios
+sixteen c = search needs
+
+finding-number-requires : tie.Need-finding-number-requires
+finding-number-requires c κs = search needs
+
+put-whole-requires : tie.Need-put-whole-requires
+put-whole-requires c κs = search needs
+
+add-put-whole : tie.Need-add-put-whole
+add-put-whole c = search needs
+
+put-whole-requires-2 : tie.Need-put-whole-requires-2
+put-whole-requires-2 c κs = search needs
+
+add-put-whole-2 : tie.Need-add-put-whole-2
+add-put-whole-2 c = search needs
+
+put-whole-requires-3 : tie.Need-put-whole-requires-3
+put-whole-requires-3 c κs = search needs
+
+add-put-whole-3 : tie.Need-add-put-whole-3
+add-put-whole-3 c = search needs
+
+cast-put-whole : tie.Need-cast-put-whole
+cast-put-whole c = search needs
+
+put-whole-requires-4 : tie.Need-put-whole-requires-4
+put-whole-requires-4 c κs = search needs
+
+add-put-wholes : tie.Need-add-put-wholes
+add-put-wholes c = search needs
+
+slice-aggregate-put-wholes : tie.Need-slice-aggregate-put-wholes
+slice-aggregate-put-wholes c = search needs
+
+put-wholes-requires : tie.Need-put-wholes-requires
+put-wholes-requires c κs = search needs
+
+same-length : tie.Need-same-length
+same-length c = search needs
+
+returns : tie.Need-returns
+returns c =
+    let p = c .before in
+    let n = p .before .before .before .before in
+    let l = n .before .before .before .before in
+    let d = l .before .before .before in
+    let f = d .before .before .before in
+    let g = f .before in
+    let s = g .before .before .before in
+    let a = s .args in (
+      verdict-length (a .verdict) (sixteen s),
+      verdict-put (a .verdict) (a .out .now) _ _ _ _ _ (a .at) (f .put-whole .ensures ∙ ap (λ (k : ℕ). set (a .out .now) (a .at) (cellOf k)) (g .finding-number .ensures))
+          (d .put-whole2 .ensures) (l .put-whole3 .ensures) (n .put-whole4 .ensures) (p .put-wholes .ensures),
+    )
+
+pub put-verdict-spec : {M : Type 1} → statement M
+put-verdict-spec =
+    tie.close
+    (tie.spec
+    finding-number-requires
+    put-whole-requires
+    add-put-whole
+    put-whole-requires-2
+    add-put-whole-2
+    put-whole-requires-3
+    add-put-whole-3
+    cast-put-whole
+    put-whole-requires-4
+    add-put-wholes
+    slice-aggregate-put-wholes
+    put-wholes-requires
+    same-length
+    returns)
