@@ -1,0 +1,201 @@
+"""An hour in numbers, driven interval by interval."""
+
+from __future__ import annotations
+
+import ctypes
+import threading
+from collections.abc import Sequence
+from typing import Any
+
+from ._library import call
+from ._numbers import cells, of_kind, whole
+from ._types import Number
+from .judgement import filled
+from .records import OUTPUTS, Cause, Costs, Curve, Finding, Interval, Judged, Opening, Resource, Seller, Verdict
+from .refusal import Refusal
+
+MAX_RESOURCES = 64
+MAX_CONSTRAINTS = 32
+MAX_PORTFOLIOS = 16
+
+# A block of an opening: room for eleven steps and eleven points. Numbers of a verdict, and of a cause.
+ROOM = 11
+VERDICT = 4 + MAX_PORTFOLIOS
+CAUSE = 4
+
+# cells of the state that are read here: intervals accepted, passes accepted since the last
+ACCEPTED = 0
+PASSES = 129
+
+
+class Hour:
+    """A trading hour that was opened, and what it has taken so far.
+
+    A cut made in one interval carries on to the next. A refused call raises its Refusal and leaves the hour as it was. Threads may share
+    an hour: one call is made after the other.
+
+    Case T, with a default energy bid from costs; a Curve in place of the Costs is a pack.
+
+    >>> from noskjerf import Charges
+    >>> costs = Costs([(10000, 10000), (20000, 9000), (30000, 9500)], Charges(gas=40000, om=20000, msc=1000, soc=3000, fee=50))
+    >>> bid = Curve(10000, [(15000, 300000), (30000, 900000)])
+    >>> hour = Hour.open(Opening(month=25, sellers=[1], resources=[Resource(portfolio=0, bid=bid, default=costs)]))
+    >>> interval = Interval([500000], lmp=[600000], dispatch=[20000], available=[30000], floor=[0], factors=[(0, 0, -500000)], parameter=100)
+    >>> hour.why(interval)
+    (Cause(resource=0, cut=True, component=250000000000, competitive_price=350000, floor_price=350100),)
+    >>> hour.interval(interval).verdicts[0].finding.name
+    'NON_COMPETITIVE'
+    >>> [(step.end, step.price) for step in hour.curve(0).steps]
+    [(15000, 300000), (20000, 378402), (24000, 444403), (30000, 488402)]
+    >>> hour.bid(0)
+    Traceback (most recent call last):
+    noskjerf.refusal.Refusal: hour: fewer than four intervals are accepted (refusal 20)
+    """
+
+    def __init__(self, opening: Opening) -> None:
+        """Opens an hour, as `Hour.open` does."""
+        of_kind("opening", opening, Opening)
+        self._lock = threading.Lock()
+        self._resources = len(opening.resources)
+        self._state = (ctypes.c_int64 * call("noskjerf_state_room"))()
+        sellers, blocks = opening.sellers, [number for resource in opening.resources for number in _block(resource)]
+        market = (len(sellers), cells(sellers), len(sellers), self._resources, cells(blocks), len(blocks))
+        _accepted(call("noskjerf_open", opening.month, *market, *self._lent()), "opening")
+
+    @classmethod
+    def open(cls, opening: Opening) -> Hour:
+        """Opens an hour. Raises Refusal 1 to 11."""
+        return cls(opening)
+
+    def interval(self, interval: Interval) -> Judged:
+        """Takes an interval. Raises Refusal 12 to 16."""
+        asked = _asked(interval)
+        with self._lock:
+            return self._judged("noskjerf_interval", asked, f"interval {self._state[ACCEPTED] + 1}")
+
+    def pass_(self, interval: Interval) -> Judged:
+        """Takes a five-minute pass, up to three after each interval. Raises Refusal 19, else 13 to 16."""
+        asked = _asked(interval)
+        with self._lock:
+            return self._judged("noskjerf_pass", asked, "pass")
+
+    def why(self, interval: Interval) -> tuple[Cause, ...]:
+        """Why an interval would cut each resource, or not; the hour stays as it is. Raises Refusal 13 to 16."""
+        asked = _asked(interval)
+        causes = (ctypes.c_int64 * (MAX_RESOURCES * CAUSE))()
+        with self._lock:
+            answer = call("noskjerf_why", *self._lent(), *asked, causes, len(causes))
+        _accepted(answer, "interval")
+        return tuple(_cause(r, causes[CAUSE * r : CAUSE * (r + 1)]) for r in range(self._resources))
+
+    def curve(self, resource: Number) -> Curve:
+        """The bid curve of a resource as it stands after the intervals so far."""
+        return self._curve("noskjerf_curve", resource, 20)
+
+    def five_minute(self, resource: Number) -> Curve:
+        """The bid curve of a resource as it stands after the passes since the last interval."""
+        return self._curve("noskjerf_five_minute", resource, 20)
+
+    def bid(self, resource: Number) -> Curve:
+        """One bid of a resource for the hour, at each quantity the lowest of the four intervals' curves. Raises Refusal 20."""
+        return self._curve("noskjerf_hour_bid", resource, 20)
+
+    def default(self, resource: Number) -> Curve:
+        """The default energy bid of a resource, worked out from its costs, or its pack."""
+        return self._curve("noskjerf_default_of", resource, 11)
+
+    @property
+    def resources(self) -> int:
+        """How many resources the hour has."""
+        return self._resources
+
+    @property
+    def accepted(self) -> int:
+        """How many intervals were accepted, 0 to 4."""
+        return self._state[ACCEPTED]
+
+    @property
+    def passes(self) -> int:
+        """How many passes were accepted since the last accepted interval, 0 to 3."""
+        return self._state[PASSES]
+
+    def copy(self) -> Hour:
+        """An hour of its own that stands where this one does."""
+        other = object.__new__(Hour)
+        other._lock = threading.Lock()
+        other._resources = self._resources
+        with self._lock:
+            other._state = type(self._state).from_buffer_copy(self._state)
+        return other
+
+    def _lent(self) -> tuple[Any, int]:
+        return self._state, len(self._state)
+
+    def _judged(self, function: str, asked: tuple[Any, ...], part: str) -> Judged:
+        verdicts = (ctypes.c_int64 * (MAX_CONSTRAINTS * VERDICT))()
+        _accepted(call(function, *self._lent(), *asked, verdicts, len(verdicts)), part)
+        rows = [verdicts[VERDICT * c : VERDICT * (c + 1)] for c in range(asked[0])]
+        found = tuple(Verdict(c, Finding(row[0]), row[1], row[2]) for c, row in enumerate(rows))
+        return Judged(found, tuple(seller for c, row in enumerate(rows) for seller in _sellers(c, row)))
+
+    def _curve(self, function: str, resource: Number, most: int) -> Curve:
+        number = whole("resource", resource)
+        if not 0 <= number < self._resources:
+            raise IndexError(f"resource: the hour has no resource {number}")
+        with self._lock:
+            return filled(function, self._lent(), (number,), most, "hour")
+
+
+def _accepted(answer: int, part: str) -> None:
+    if answer < 0:
+        raise AssertionError("the engine wants larger buffers")
+    if answer:
+        raise Refusal(answer, part)
+
+
+def _block(resource: Resource) -> list[int]:
+    """The 80 numbers of a resource: portfolio, bid, source, points and charges, pack."""
+    costs = resource.default if isinstance(resource.default, Costs) else Costs(())
+    pack = resource.default if isinstance(resource.default, Curve) else Curve(0, ())
+    points = [number for point in costs.points for number in (point.mw, point.heat)]
+    source = 0 if isinstance(resource.default, Costs) else 1
+    return [
+        *(resource.portfolio, *_raw(resource.bid)),
+        *(source, len(costs.points), *_filled_up(points), *costs.charges.in_order()),
+        *_raw(pack),
+    ]
+
+
+def _raw(curve: Curve) -> list[int]:
+    """Start, number of steps, and end and price of eleven steps in turn."""
+    return [curve.start, len(curve.steps), *_filled_up([number for step in curve.steps for number in (step.end, step.price)])]
+
+
+def _filled_up(numbers: Sequence[int]) -> list[int]:
+    """Eleven pairs. Where there are more, the engine refuses their count and looks at none."""
+    return [*numbers[: 2 * ROOM], *[0] * (2 * ROOM - len(numbers))]
+
+
+def _asked(interval: Interval) -> tuple[Any, ...]:
+    """An interval as the engine takes it."""
+    of_kind("interval", interval, Interval)
+    outputs = [number for row in zip(*(getattr(interval, name) for name in OUTPUTS)) for number in row]
+    factors = [0] * (MAX_RESOURCES * MAX_CONSTRAINTS)
+    for factor in interval.factors:
+        # past these the engine refuses the counts and looks at no factor
+        if factor.resource < MAX_RESOURCES and factor.constraint < MAX_CONSTRAINTS:
+            factors[MAX_CONSTRAINTS * factor.resource + factor.constraint] = factor.factor
+    shadow = (len(interval.shadow), cells(interval.shadow), len(interval.shadow))
+    lent = (len(interval.lmp), cells(outputs), len(outputs), cells(factors), len(factors))
+    return (*shadow, *lent, interval.parameter or 0)
+
+
+def _sellers(constraint: int, row: Sequence[int]) -> list[Seller]:
+    """The sellers that a verdict names: bit p of its fourth number stands for portfolio p."""
+    named, withheld = row[3], row[4:]
+    return [Seller(constraint, p, amount) for p, amount in enumerate(withheld) if named >> p & 1]
+
+
+def _cause(resource: int, row: Sequence[int]) -> Cause:
+    cut, component, competitive_price, floor_price = row
+    return Cause(resource, cut != 0, component, competitive_price, floor_price)

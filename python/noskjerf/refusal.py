@@ -1,0 +1,99 @@
+"""Refusals and what they say."""
+
+from __future__ import annotations
+
+import functools
+import re
+from dataclasses import dataclass
+from pathlib import Path
+
+SENTENCES = {
+    1: "a bid has no step, or more than 10 (a pack's curve 11)",
+    2: "an edge of a bid (or of a pack's curve) is outside 0 to 1,000,000, or its edges do not rise",
+    3: "a bid price is outside the range that the month allows (a pack's outside its own), or the prices fall",
+    4: "a resource has fewer than 2 cost points, or more than 11",
+    5: "the quantity of a cost point is outside 0 to 1,000,000, or the quantities do not rise",
+    6: "a heat rate is outside 1 to 100,000",
+    7: "a price, rate or fee of the costs is outside its range",
+    8: "an incremental heat rate, after the 80% limit, is outside -100,000 to 100,000",
+    9: "the month is outside 1 to 1,200, the portfolio count outside 1 to 16 or the resource count outside 1 to 64",
+    10: "a portfolio's seller is not 0 or 1, or a resource's portfolio is not declared",
+    11: "a bid reaches outside its default energy bid",
+    12: "the hour has taken four intervals already",
+    13: "the interval does not have as many resources as the hour",
+    14: "the interval has more than 32 constraints",
+    15: "a shadow price, locational price, parameter or shift factor is outside its limits",
+    16: "available is outside 0 to 1,000,000, or floor or dispatch is below 0 or above available",
+    17: "the line is not of the form that is due there",
+    18: "the text has more than 65,536 bytes",
+    19: "no interval is accepted yet, or three passes are accepted since the last",
+    20: "fewer than four intervals are accepted",
+    21: "the market's list of gas prices ends inside a pair, its days do not rise, or it has no entry up to the trading day",
+}
+
+
+class Refusal(Exception):
+    """Why the engine refused a text or a call: a number from 1 to 21 of docs/REFUSALS.md.
+
+    `part` is what was refused: of a text "opening" or "interval 1" and so on, "text" where it is too long (18); of a call "bid",
+    "costs", "book", "opening", "interval 1" and so on, "pass" or "hour". `line` is the line of the text, from 1 on, and None for a call.
+    For 17 it is the faulty line, or the one after the last where the text ends early; else the last line of the part.
+
+    >>> print(Refusal(15, "interval 1", 23))
+    interval 1, line 23: a shadow price, locational price, parameter or shift factor is outside its limits (refusal 15)
+    """
+
+    def __init__(self, number: int, part: str, line: int | None = None) -> None:
+        super().__init__(number, part, line)
+        self.number = number
+        self.part = part
+        self.line = line
+
+    @property
+    def sentence(self) -> str:
+        """The reason alone, as a sentence for a person."""
+        return SENTENCES.get(self.number, "no such refusal is known")
+
+    def __str__(self) -> str:
+        where = self.part if self.line is None else f"{self.part}, line {self.line}"
+        return f"{where}: {self.sentence} (refusal {self.number})"
+
+    def __eq__(self, other: object) -> bool:
+        return isinstance(other, Refusal) and self.args == other.args
+
+    def __hash__(self) -> int:
+        return hash(self.args)
+
+
+@dataclass(frozen=True)
+class Explanation:
+    """The entry of docs/REFUSALS.md for a number, as Markdown: its title, when it is told, examples and what to mend."""
+
+    number: int
+    title: str
+    when: str
+    examples: str
+    mend: str
+
+
+def explain(number: int) -> Explanation:
+    """The entry of docs/REFUSALS.md for a number. Raises KeyError where there is none.
+
+    >>> explain(18).title
+    'length'
+    """
+    return _entries()[number]
+
+
+@functools.lru_cache(maxsize=None)
+def _entries() -> dict[int, Explanation]:
+    _, *sections = re.split(r"^## (?=\d)", Path(__file__).with_name("REFUSALS.md").read_text("utf-8"), flags=re.MULTILINE)
+    return {entry.number: entry for entry in map(_entry, sections)}
+
+
+def _entry(section: str) -> Explanation:
+    heading, body = section.split("\n", 1)
+    number, title = heading.split(": ", 1)
+    told, mend = body.split("**Mend**: ")
+    when, _, examples = told.split("**When**: ")[1].partition("\n\n")
+    return Explanation(int(number), title, when.strip(), examples.strip(), mend.strip())

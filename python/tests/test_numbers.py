@@ -1,0 +1,145 @@
+"""Numbers of every kind, in every field that takes one."""
+
+from __future__ import annotations
+
+from dataclasses import replace
+from decimal import Decimal
+from fractions import Fraction
+from typing import Any, Callable
+
+import pytest
+from noskjerf import Book, Charges, Curve, Factor, Interval, Market, Opening, Point, Resource, Step, bid, default_curve
+from noskjerf._numbers import column, whole
+
+WRONG = [
+    (None, TypeError),
+    (True, TypeError),
+    ("5", TypeError),
+    (b"5", TypeError),
+    ([5], TypeError),
+    (5j, TypeError),
+    (Decimal(5), TypeError),
+    (object(), TypeError),
+    (float("nan"), ValueError),
+    (float("inf"), ValueError),
+    (-0.5, ValueError),
+    (Fraction(1, 3), ValueError),
+    (1e300, OverflowError),
+    (2**64, OverflowError),
+    (-(2**63) - 1, OverflowError),
+    (10**5000, OverflowError),
+]
+
+POINTS = [(0, 1), (10, 1)]
+INTERVAL = Interval((1,), (1,), (1,), (1,), (1,))
+BOOK = Book([(1, 1)], [(1, 1)])
+
+# a call with a number in one field, and the name of the field
+FIELDS: list[tuple[str, Callable[[Any], object]]] = [
+    ("end", lambda n: Step(n, 1)),
+    ("price", lambda n: Step(1, n)),
+    ("start", lambda n: Curve(n, ())),
+    ("steps[0].end", lambda n: Curve(0, ((n, 1),))),
+    ("mw", lambda n: Point(n, 1)),
+    ("heat", lambda n: Point(1, n)),
+    *[(name, lambda n, name=name: replace(Charges(), **{name: n})) for name in ("gas", "rate", "allowance", "om", "msc", "soc", "fee")],
+    ("portfolio", lambda n: Resource(n, Curve(0, ()), Curve(0, ()))),
+    ("month", lambda n: Opening(n, (), ())),
+    ("sellers[1]", lambda n: Opening(1, (1, n), ())),
+    ("factor", lambda n: Factor(0, 0, n)),
+    *[(f"{name}[0]", lambda n, name=name: replace(INTERVAL, **{name: [n]})) for name in ("shadow", "lmp", "dispatch", "available", "floor")],
+    ("month", lambda n: bid(n, 0, [(1, 1)])),
+    ("start", lambda n: bid(1, n, [(1, 1)])),
+    ("steps[0].end", lambda n: bid(1, 0, [(n, 1)])),
+    ("steps[1].price", lambda n: bid(1, 0, [(1, 1), (2, n)])),
+    ("points[0].mw", lambda n: default_curve([(n, 1), (10, 1)], Charges())),
+    ("points[1].heat", lambda n: default_curve([(0, 1), (10, n)], Charges())),
+    ("day_ahead[0].day", lambda n: Book([(n, 1)])),
+    ("real_time[0].price", lambda n: Book((), [(1, n)])),
+    ("market", lambda n: BOOK.run(n, 1)),
+    ("day", lambda n: BOOK.price(Market.REAL_TIME, n)),
+    ("day", lambda n: BOOK.default_curve(Market.DAY_AHEAD, n, POINTS, Charges())),
+]
+
+
+@pytest.mark.parametrize(("field", "take"), FIELDS, ids=[f"{i}-{field}" for i, (field, _) in enumerate(FIELDS)])
+def test_a_wrong_number_is_an_error_that_names_its_field(field: str, take: Callable[[Any], object]) -> None:
+    for wrong, error in WRONG:
+        with pytest.raises(error) as raised:
+            take(wrong)
+        assert str(raised.value).startswith(f"{field}: "), wrong
+        assert len(str(raised.value)) < 120
+
+
+def test_a_missing_parameter_is_none_and_no_other_wrong_number_is_taken() -> None:
+    assert replace(INTERVAL, parameter=None).parameter is None
+    for wrong, error in WRONG[1:]:
+        with pytest.raises(error, match="^parameter: "):
+            replace(INTERVAL, parameter=wrong)
+
+
+def test_numbers_reach_the_ends_of_their_bits() -> None:
+    for number in (-(2**63), 2**63 - 1):
+        assert Step(number, number).end == number
+    for number in (-(2**63) - 1, 2**63):
+        with pytest.raises(OverflowError):
+            Step(number, 0)
+    bid(2**64 - 1, 0, [(1, 10_000_000)])
+    with pytest.raises(OverflowError):
+        bid(-1, 0, [(1, 1)])
+    top = 2**32 - 1
+    assert Book([(top, top)]).price(Market.DAY_AHEAD, top) == top
+    with pytest.raises(OverflowError):
+        Book([(top + 1, 0)])
+
+
+def test_whole_numbers_of_other_kinds_are_taken() -> None:
+    numpy = pytest.importorskip("numpy")
+    kinds = [3.0, Fraction(6, 2), numpy.int8(3), numpy.uint64(3), numpy.int64(3), numpy.float32(3), numpy.float64(3), numpy.array(3)]
+    for number in kinds:
+        assert whole("price", number) == 3
+        assert type(whole("price", number)) is int
+    for wrong in (numpy.bool_(True), numpy.datetime64(3, "s"), numpy.array([3]), numpy.complex128(3)):
+        with pytest.raises(TypeError, match="^price: a whole number is due"):
+            whole("price", wrong)
+    with pytest.raises(ValueError, match="^price: nan is no whole number"):
+        whole("price", numpy.float32("nan"))
+    with pytest.raises(OverflowError, match="^price: "):
+        whole("price", numpy.uint64(2**64 - 1))
+
+
+@pytest.mark.parametrize("values", [None, 5, 5.0, "12", b"12", bytearray(b"12"), memoryview(b"12"), {1: 2}, {1, 2}, frozenset([1]), object()])
+def test_what_is_no_list_is_a_type_error(values: Any) -> None:
+    with pytest.raises(TypeError, match="^shadow: a list is due, not "):
+        column("shadow", values)
+
+
+def test_lists_of_every_kind_are_taken() -> None:
+    numpy = pytest.importorskip("numpy")
+    for values in ([1, 2], (1.0, 2), range(1, 3), iter([1, 2]), numpy.array([1, 2]), numpy.array([1.0, 2.0])):
+        assert column("shadow", values) == (1, 2)
+    with pytest.raises(TypeError, match=r"^shadow\[0\]: a whole number is due, not ndarray"):
+        column("shadow", numpy.array([[1, 2]]))
+
+
+@pytest.mark.parametrize(
+    ("make", "said"),
+    [
+        (lambda: default_curve([(0, 1), (10, 1)], None), "charges: Charges is due, not None"),  # type: ignore[arg-type]
+        (lambda: default_curve([(0, 1), (10, 1)], (1, 2, 3)), "charges: Charges is due, not tuple"),  # type: ignore[arg-type]
+        (lambda: default_curve([(0, 1, 2)], Charges()), r"points\[0\]: 2 numbers are due \(mw heat\), not 3"),
+        (lambda: default_curve([5], Charges()), r"points\[0\]: a list is due, not int"),  # type: ignore[list-item]
+        (lambda: default_curve(None, Charges()), "points: a list is due, not None"),  # type: ignore[arg-type]
+        (lambda: bid(1, 0, [(1,)]), r"steps\[0\]: 2 numbers are due \(end price\), not 1"),
+        (lambda: bid(1, 0, ["12"]), r"steps\[0\]: a list is due, not str"),  # type: ignore[list-item]
+        (lambda: Book([3, 40000]), r"day_ahead\[0\]: a list is due, not int"),  # type: ignore[list-item]
+        (lambda: Book([(3, 40000, 5)]), r"day_ahead\[0\]: 2 numbers are due \(day price\), not 3"),
+        (lambda: BOOK.run(2, 1), "market: Market.DAY_AHEAD or Market.REAL_TIME is due"),  # type: ignore[arg-type]
+        (lambda: Opening(1, (1,), None), "resources: a list is due, not None"),  # type: ignore[arg-type]
+        (lambda: Opening(1, (1,), (5,)), r"resources\[0\]: Resource is due, not int"),  # type: ignore[arg-type]
+        (lambda: Resource(0, None, Curve(0, ())), "bid: Curve is due, not None"),  # type: ignore[arg-type]
+    ],
+)
+def test_what_is_no_record_is_an_error_that_names_it(make: Callable[[], object], said: str) -> None:
+    with pytest.raises((TypeError, ValueError), match=f"^{said}"):
+        make()
