@@ -1,7 +1,7 @@
 -- The answer and the slices of put_checked, of the number and the curve that a check gave. Assumes nothing.
 use Prim.Native.Nat.{ℕ}
 use mathlib.Core.List.{List}
-use mathlib.Core.Path.{_≡_, ap, subst, _∙_}
+use mathlib.Core.Path.{_≡_, subst, _∙_}
 use lib.IntN.{ℤ}
 use Rattle.rules_curve.specs.Curves.{unlessRefused}
 use Rattle.rules_curve.specs.declared.Curve.{Curve}

@@ -1,4 +1,4 @@
-// Numbers, lines of values and names lines, put into a lent buffer at an offset (paper 01, Text). The contracts cite the definitions of rules_page.
+// Lines of values and names lines, put into a lent buffer at an offset (paper 01, Text). The contracts cite the definitions of rules_text.
 use rules_text::Printed;
 use text_numbers::closing;
 ghost use mathlib.Core.Path.{_≡_};
@@ -247,15 +247,6 @@ fn put_sign(out: &mut [u8], at: usize, x: i64) -> usize
     at
 }
 
-// Puts a number at an offset, and answers the offset after it.
-fn put_number(out: &mut [u8], at: usize, x: i64) -> usize
-    requires { ⌜ at + length (decimal x) ≤ length (now out) ⌝ }
-    ensures { λ r. ⌜ (now (out .exit) ≡ sets (now (out .entry)) at (decimal x)) × (r ≡ at + length (decimal x)) ⌝ }
-{
-    let p = put_sign(out, at, x);
-    put_digits(out, p, magnitude(x))
-}
-
 // Puts a number and the byte that closes it at an offset, and answers the offset after it.
 fn put_value(out: &mut [u8], at: usize, x: i64, end: u8) -> usize
     requires { ⌜ at + length (decimal x) < length (now out) ⌝ }
@@ -365,17 +356,6 @@ fn line_fits(size: usize, at: usize, v: [i64; 5], k: usize) -> bool
         return true;
     }
     number::has_room(size, at, line_width(v, k))
-}
-
-// Prints a number at an offset, where it fits.
-pub fn print_number(out: &mut [u8], at: usize, x: i64) -> Printed
-    ensures { λ r. ⌜ now (out .exit) ≡ printed (now (out .entry)) at (decimal x) ⌝ }
-    ensures { λ r. ⌜ r ≡ printedTo (now (out .entry)) at (decimal x) ⌝ }
-{
-    if !number::has_room(out.len(), at, number_width(x)) {
-        return Printed::Full;
-    }
-    Printed::To(put_number(out, at, x))
 }
 
 // Prints the line of the first k values at an offset, where it fits, whatever they are.

@@ -1,47 +1,15 @@
-// A curve put into lent slices of numbers. The contracts cite the definitions of rules_library.
+// A checked curve put into lent slices of numbers. The contracts cite the definitions of rules_library.
 use rules_curve::Checked;
 use rules_curve::Curve;
 use rules_curve::Outcome;
 ghost use mathlib.Core.Path.{_≡_};
-ghost use Prim.Native.Nat.{_≤_};
-ghost use lib.ListN.{length};
-ghost use lib.Seq.{sets};
 ghost use Rattle.rules_curve.specs.Refusals.{outcomeNumber};
-ghost use Rattle.rules_library.specs.Slices.{edgeCount, priceCount, putAnswer, edgesWith, pricesWith, edgesOf, pricesOf};
+ghost use Rattle.rules_library.specs.Slices.{putAnswer, edgesWith, pricesWith};
 
 // How many numbers the two slices have to have: the number of steps, the start and the ends of a curve; and its prices.
 const EDGES: usize = Curve::MAX_STEPS + 2;
 
 const PRICES: usize = Curve::MAX_STEPS;
-
-// Puts the number of steps, the start and the ends of a curve at the front of a slice.
-fn put_edges(curve: Curve, edges: &mut [u64])
-    requires { ⌜ edgeCount ≤ length (now edges) ⌝ }
-    ensures { λ r. ⌜ now (edges .exit) ≡ sets (now (edges .entry)) 0 (edgesOf curve) ⌝ }
-{
-    edges[0] = curve.count as u64;
-    edges[1] = curve.start;
-    let mut i: usize = 0;
-    while i < Curve::MAX_STEPS {
-        let s = curve.steps[i];
-        edges[2 + i] = s.end;
-        i += 1;
-    }
-}
-
-// Puts the prices of a curve at the front of a slice.
-fn put_prices(curve: Curve, prices: &mut [i64])
-    requires { ⌜ priceCount ≤ length (now prices) ⌝ }
-    ensures { λ r. ⌜ now (prices .exit) ≡ sets (now (prices .entry)) 0 (pricesOf curve) ⌝ }
-{
-    let mut i: usize = 0;
-    while i < Curve::MAX_STEPS {
-        let s = curve.steps[i];
-        let price = s.price;
-        prices[i] = price;
-        i += 1;
-    }
-}
 
 // Puts a checked curve into two lent slices: answers 0 and puts the number of steps, the start and the ends into `edges` and the prices into `prices`; or answers the
 // number of the refusal, or -1 where a slice has too few numbers, and leaves both as they were.
@@ -61,7 +29,6 @@ pub fn put_checked(checked: Checked, edges: &mut [u64], prices: &mut [i64]) -> i
         return curve::refusal_number(refusal) as i64;
     }
     let curve = checked.curve;
-    put_edges(curve, edges);
-    put_prices(curve, prices);
+    curve_cells::put_default(edges, prices, curve);
     0
 }

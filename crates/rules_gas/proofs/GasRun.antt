@@ -1,16 +1,16 @@
 -- The run of a book, in the request's words (paper 02, 2.7). Assumes nothing.
-use mathlib.Core.Bool.{Bool, true, false, cond, _&&_}
+use mathlib.Core.Bool.{Bool, true, false, cond}
 use mathlib.Core.List.{List, [], _∷_, _++_, append-assoc}
 use mathlib.Core.Logic.{_↔_, _⊎_, inl, inr, ⊎-elim}
 use mathlib.Core.Path.{_≡_, refl, sym, ap, subst, _∙_}
-use Prim.Native.Nat.{ℕ, zero, suc, _+_, _%_, _≤_, _<_}
+use Prim.Native.Nat.{ℕ, suc, _+_, _%_, _≤_, _<_}
 use native.Mathlib.Omega.{arith}
-use borrow.Author.Tests.{ltb-true, ltb-false, lt-ltb, le-ltb, eqb-true, eq-eqb, ne-eqb}
+use borrow.Author.Tests.{ltb-true, ltb-false, lt-ltb, le-ltb, eqb-true, eq-eqb}
 use lib.Dec.{ltb, eqb}
 use lib.ListN.{length, take, drop, take-append-drop}
-use Rattle.rules_number.proofs.OverLaws.{both, never}
-use Rattle.rules_gas.specs.Book.{daysRise, runLength, isBook, runIn, chosen, gasRun}
-use Rattle.rules_gas.specs.Meaning.{Entry, entries, dayAt, Rising, Book, EndsInside, FailsToRise, UpTo, Later, IsRun}
+use Rattle.rules_number.proofs.OverLaws.{never}
+use Rattle.rules_gas.specs.Book.{daysRise, runLength, runIn, chosen, gasRun}
+use Rattle.rules_gas.specs.Meaning.{Entry, entries, Rising, Book, EndsInside, FailsToRise, UpTo, Later, IsRun}
 use Rattle.rules_gas.specs.declared.GasMarket.{GasMarket}
 use Rattle.rules_gas.specs.declared.GasMarket.the-variants.{DayAhead, RealTime}
 use Rattle.rules_gas.proofs.BookLaws.{run-odd, run-fall, run-is-front}

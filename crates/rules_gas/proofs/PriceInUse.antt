@@ -9,7 +9,7 @@ use borrow.Author.Tests.{ltb-false}
 use lib.Dec.{ltb}
 use lib.ListN.{length, take}
 use Rattle.rules_number.proofs.OverLaws.{le-or-lt}
-use Rattle.rules_gas.specs.Book.{runLength, runIn, chosen, gasRun, lastPrice, priceInUse}
+use Rattle.rules_gas.specs.Book.{runLength, runIn, chosen, lastPrice, priceInUse}
 use Rattle.rules_gas.specs.Meaning.{Entry, entries, entryAt, dayAt, Rising, Book, Later, InUse}
 use Rattle.rules_gas.specs.declared.GasMarket.{GasMarket}
 use Rattle.rules_gas.specs.declared.GasPrice.{GasPrice}

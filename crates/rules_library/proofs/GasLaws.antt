@@ -5,8 +5,8 @@ use mathlib.Core.Logic.{_↔_}
 use mathlib.Core.Path.{_≡_, refl, ap}
 use native.Mathlib.Omega.{arith}
 use lib.IntN.{ℤ, pos}
-use lib.ListN.{length, getD, replicate, length-replicate}
-use Rattle.rules_curve.specs.Curves.{mostSteps, blankStep, unlessRefused}
+use lib.ListN.{length, getD}
+use Rattle.rules_curve.specs.Curves.{mostSteps, unlessRefused}
 use Rattle.rules_cost.specs.Costs.{costRefusal, costCurve}
 use Rattle.rules_cost.specs.declared.Costs.{Costs}
 use Rattle.rules_gas.specs.Book.{daysRise, runLength, runIn, gasRun, lastPrice}

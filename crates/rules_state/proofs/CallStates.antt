@@ -11,7 +11,6 @@ use lib.ListN.{length, length-replicate}
 use lib.Seq.{sets}
 use Rattle.rules_text.proofs.ListLaws.{sets-before}
 use Rattle.rules_number.proofs.OverLaws.{both, listed-length}
-use Rattle.rules_curve.specs.Refusals.{_then_}
 use Rattle.rules_curve.proofs.CheckLaws.{then-both, unless-holds}
 use Rattle.rules_interval.specs.Intervals.{intervalRefusal}
 use Rattle.rules_interval.specs.declared.Interval.{Interval}

@@ -5,14 +5,7 @@ use rules_curve::Curve;
 use rules_curve::RawStep;
 ghost use mathlib.Core.Path.{_≡_};
 ghost use Rattle.rules_library.specs.Gas.{listBy};
-ghost use Rattle.rules_library.specs.Slices.{cellAt, stepsIn, pointsIn, costsIn};
-
-// The number at an index, or 0 past the end.
-fn cell_at(s: &[i64], i: usize) -> i64
-    ensures { λ r. ⌜ r ≡ cellAt (now (s .entry)) i ⌝ }
-{
-    if i < s.len() { s[i] } else { 0 }
-}
+ghost use Rattle.rules_library.specs.Slices.{stepsIn, pointsIn, costsIn};
 
 // Eleven steps, from end and price of each in turn.
 pub fn steps_in(s: &[i64]) -> [RawStep; Curve::MAX_STEPS]
@@ -21,8 +14,8 @@ pub fn steps_in(s: &[i64]) -> [RawStep; Curve::MAX_STEPS]
     let mut steps = [RawStep { end: 0, price: 0 }; Curve::MAX_STEPS];
     let mut i: usize = 0;
     while i < Curve::MAX_STEPS {
-        let end = cell_at(s, 2 * i);
-        let price = cell_at(s, 2 * i + 1);
+        let end = cells::cell_at(s, 2 * i);
+        let price = cells::cell_at(s, 2 * i + 1);
         steps[i] = RawStep { end, price };
         i += 1;
     }
@@ -36,8 +29,8 @@ fn points_in(s: &[i64]) -> [Point; Costs::MAX_POINTS]
     let mut points = [Point { mw: 0, heat: 0 }; Costs::MAX_POINTS];
     let mut i: usize = 0;
     while i < Costs::MAX_POINTS {
-        let mw = cell_at(s, 2 * i);
-        let heat = cell_at(s, 2 * i + 1);
+        let mw = cells::cell_at(s, 2 * i);
+        let heat = cells::cell_at(s, 2 * i + 1);
         points[i] = Point { mw, heat };
         i += 1;
     }
@@ -51,13 +44,13 @@ pub fn costs_in(count: usize, points: &[i64], charges: &[i64]) -> Costs
     Costs {
         count,
         points: points_in(points),
-        gas: cell_at(charges, 0),
-        rate: cell_at(charges, 1),
-        allowance: cell_at(charges, 2),
-        om: cell_at(charges, 3),
-        msc: cell_at(charges, 4),
-        soc: cell_at(charges, 5),
-        fee: cell_at(charges, 6),
+        gas: cells::cell_at(charges, 0),
+        rate: cells::cell_at(charges, 1),
+        allowance: cells::cell_at(charges, 2),
+        om: cells::cell_at(charges, 3),
+        msc: cells::cell_at(charges, 4),
+        soc: cells::cell_at(charges, 5),
+        fee: cells::cell_at(charges, 6),
     }
 }
 

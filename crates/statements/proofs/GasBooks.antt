@@ -1,7 +1,7 @@
 -- Paper 02, 2.7, in full: the run of a book of gas prices, the price in use, and 21. Assumes nothing.
 use mathlib.Core.List.{List, [], _∷_, _++_}
 use mathlib.Core.Logic.{_↔_, _⊎_, inl, inr, ⊎-elim}
-use mathlib.Core.Path.{_≡_, refl, sym, ap, subst, _∙_}
+use mathlib.Core.Path.{_≡_, refl, sym, ap, subst}
 use Prim.Native.Nat.{ℕ, suc, _%_, _≤_, _<_}
 use lib.IntN.{pos}
 use lib.ListN.{length, getD}
@@ -12,7 +12,6 @@ use Rattle.rules_cost.specs.declared.Costs.{Costs}
 use Rattle.rules_gas.specs.Book.{runIn, gasRun, lastPrice, priceInUse}
 use Rattle.rules_gas.specs.Booked.{withGas, bookedRefusal, bookedCurve}
 use Rattle.rules_gas.specs.Meaning.{Entry, entries, Book, FailsToRise, IsRun, InUse}
-use Rattle.rules_gas.specs.declared.GasMarket.{GasMarket}
 use Rattle.rules_gas.specs.declared.GasMarket.the-variants.{DayAhead, RealTime}
 use Rattle.rules_gas.specs.declared.GasPrice.{GasPrice}
 use Rattle.rules_gas.specs.declared.GasPrice.the-variants.{Is}

@@ -5,7 +5,7 @@ ghost use Prim.Native.Nat.{_<_};
 ghost use lib.Count.{ones};
 ghost use lib.Dec.{ltb};
 ghost use Rattle.rules_path.specs.Paths.{largest};
-ghost use Rattle.rules_path.specs.Verdicts.{findingNumber, notBinding, isNamed};
+ghost use Rattle.rules_path.specs.Verdicts.{findingNumber, notBinding};
 ghost use Rattle.verdict.specs.Offers.{offersOf};
 use rules_path::Finding;
 use rules_path::Market;
@@ -40,14 +40,6 @@ pub fn sellers_named(verdict: Verdict) -> u32
     ensures { λ r. ⌜ r ≡ ones (verdict .named) ⌝ }
 {
     u32::count_ones(verdict.named)
-}
-
-// Whether portfolio p is named.
-pub fn names(verdict: Verdict, p: u64) -> bool
-    ensures { λ r. ⌜ r ≡ isNamed verdict p ⌝ }
-{
-    let named = verdict.named;
-    if p < 32 { (named >> p) % 2 == 1 } else { false }
 }
 
 // Left equal to demand is competitive.

@@ -1,7 +1,5 @@
 -- `noskjerf_judgements::noskjerf_gas_run` meets its contract. Assumes nothing.
-use mathlib.Core.List.{List}
 use mathlib.Core.Path.{ap, _∙_}
-use Prim.Native.Nat.{ℕ}
 use borrow.Author.Needs.{needs}
 use lib.ListN.{length}
 use Rattle.rules_gas.specs.Book.{runIn}

@@ -1,17 +1,13 @@
 -- `put_slices::put_checked` meets its contract. Assumes nothing.
 use Prim.Native.Nat.{_≤_, _<_}
-use mathlib.Core.List.{List}
-use mathlib.Core.Path.{_≡_, sym, ap, subst, _∙_}
+use mathlib.Core.Path.{sym, ap, _∙_}
 use native.Mathlib.Omega.{arith}
 use borrow.Author.Needs.{needs}
 use mir.Syntax.{w64}
 use mir.Facts.{toZ-pos}
-use lib.IntN.{ℤ, pos}
-use lib.Seq.{sets}
 use Rattle.rules_curve.specs.Refusals.{outcomeNumber}
 use Rattle.rules_curve.proofs.RefusalLaws.{refused-number, two-digits}
-use Rattle.rules_library.specs.Slices.{edgesOf, pricesOf}
-use Rattle.put_slices.proofs.PutLaws.{Answered, few-edges, few-prices, refused, written}
+use Rattle.put_slices.proofs.PutLaws.{few-edges, few-prices, refused, written}
 use Rattle.put_slices.proofs.put_checked.Statement.{statement}
 use Rattle.put_slices.proofs.put_checked.Tie as tie
 
@@ -49,11 +45,8 @@ returns-3 c =
 enum-told : tie.Need-enum-told
 enum-told c = search needs
 
-put-edges-requires : tie.Need-put-edges-requires
-put-edges-requires c κs = search needs
-
-put-prices-requires : tie.Need-put-prices-requires
-put-prices-requires c κs = search needs
+put-default-requires : tie.Need-put-default-requires
+put-default-requires c κs = search needs
 
 same-length : tie.Need-same-length
 same-length c = search needs
@@ -63,12 +56,12 @@ same-length-2 c = search needs
 
 returns-4 : tie.Need-returns-4
 returns-4 c =
-    let put = c .before .before .before .before .before in
-    let told = put .before .before .before in
+    let put = c .before .before .before in
+    let told = put .before .before .before .before in
     let e = told .before .before in
     let a = e .before .before .before .args in
     let w = written (a .edges .now) (a .prices .now) (outcomeNumber (a .checked .outcome)) (a .checked .curve) (e .before .if1 .left) (e .if2 .left) (ap outcomeNumber (told .enum-told .given .1)) in
-    (w .0, (put .put-edges .ensures ∙ w .1 .0, c .before .put-prices .ensures ∙ w .1 .1))
+    (w .0, (put .put-default .ensures .0 ∙ w .1 .0, put .put-default .ensures .1 ∙ w .1 .1))
 
 pub put-checked-spec : {M : Type 1} → statement M
 put-checked-spec =
@@ -81,8 +74,7 @@ put-checked-spec =
     cast-result
     returns-3
     enum-told
-    put-edges-requires
-    put-prices-requires
+    put-default-requires
     same-length
     same-length-2
     returns-4)
