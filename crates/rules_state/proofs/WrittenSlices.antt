@@ -24,10 +24,13 @@ use Rattle.rules_mitigation.proofs.MitigationLaws.{mitigated-length}
 use Rattle.rules_interval.specs.Intervals.{intervalRefusal}
 use Rattle.rules_interval.specs.declared.Interval.{Interval}
 use Rattle.rules_interval.proofs.IntervalLaws.{in-limits}
-use Rattle.rules_path.specs.Paths.{Path, binds, amountOf, sellers}
+use Rattle.rules_path.specs.Paths.{Path, binds, offers, amountOf, sellers, named}
 use Rattle.rules_path.specs.Verdicts.{findingNumber, notBinding, verdictOf}
 use Rattle.rules_path.specs.Judgements.{pathIn, verdictsOf}
 use Rattle.rules_path.specs.declared.Market.{Market}
+use Rattle.rules_path.proofs.TopLaws.{mask-bound}
+use Rattle.rules_page.proofs.SameValues.{same-quantity}
+use Rattle.rules_page.proofs.WithinBound.{most, VerdictFew, verdict-few}
 use Rattle.rules_path.specs.declared.Verdict.{Verdict}
 use Rattle.rules_opening.specs.Resources.{blankRow}
 use Rattle.rules_opening.specs.declared.Row.{Row}
@@ -40,7 +43,7 @@ use Rattle.rules_hour_bid.specs.HourBids.{hourBidRefusal, hourBidIn, hourBidOf}
 use Rattle.rules_hour_bid.proofs.HourBidIs.{given-bid}
 use Rattle.rules_text.proofs.ListLaws.{and-false}
 use Rattle.rules_library.specs.Slices.{cellAt, edgesOf, pricesOf, edgeCount, priceCount}
-use Rattle.rules_state.specs.Layout.{mostResources, mostConstraints, stateRoom, verdictWidth, verdictRoom}
+use Rattle.rules_state.specs.Layout.{mostResources, mostConstraints, stateRoom, verdictWidth, verdictRoom, causeRoom}
 use Rattle.rules_state.specs.States.{curveInCells, rowIn, rowsIn, hourIn, marketIn, standingIn, quarterIn, cellOf}
 use Rattle.rules_state.specs.Fits.{Each}
 use Rattle.rules_state.specs.Verdicts.{verdictCells, verdictsCells}
@@ -112,22 +115,35 @@ module _ (s : List ℤ) (edges : List ℕ) (prices : List ℤ) where
     priced = written (pos 0) 20 (mitigatedPrices c) prices (length-map (c .steps) (λ s. s .price) ∙ n) (z .1);
   }
 
+  -- the state, and slices for n edges and m prices, have room, or one of them hasn't
+  all-room : (n m : ℕ) → stateRoom ≤ length s → n ≤ length edges → m ≤ length prices → (holds stateRoom s && (holds n edges && holds m prices)) ≡ true
+  all-room n m h k l = rw (le-leb stateRoom (length s) h, le-leb n (length edges) k) (le-leb m (length prices) l)
+
+  no-room : (n m : ℕ) → (length s < stateRoom) ⊎ ((length edges < n) ⊎ (length prices < m)) → (holds stateRoom s && (holds n edges && holds m prices)) ≡ false
+  no-room n m (inl h) = rw (lt-leb stateRoom (length s) h)
+  no-room n m (inr (inl h)) = rw (lt-leb n (length edges) h) (and-false (holds stateRoom s))
+  no-room n m (inr (inr h)) = rw (lt-leb m (length prices) h, and-false (holds n edges)) (and-false (holds stateRoom s))
+
   -- -1 where the state or a slice is too short; else 0, and 20 of a bid for the hour that isn't full
   pub curve-answer : 3411 ≤ length s → 22 ≤ length edges → 20 ≤ length prices
       → (curveAnswer s edges prices ≡ pos 0) × (hourBidAnswer s edges prices ≡ pos (hourBidRefusal (hourIn s)))
   unfolding curveAnswer hourBidAnswer
   curve-answer h k l =
-      let e : mitigatedRoom s edges prices ≡ true = rw (le-leb stateRoom (length s) h, le-leb mitigatedEdgeCount (length edges) k) (le-leb mostMitigatedSteps (length prices) l) in
+      let e = all-room mitigatedEdgeCount mostMitigatedSteps h k l in
       (answered (mitigatedRoom s edges prices) 0 e, answered (mitigatedRoom s edges prices) (hourBidRefusal (hourIn s)) e)
-
-  no-curve-room : (length s < 3411) ⊎ ((length edges < 22) ⊎ (length prices < 20)) → mitigatedRoom s edges prices ≡ false
-  no-curve-room (inl h) = rw (lt-leb stateRoom (length s) h)
-  no-curve-room (inr (inl h)) = rw (lt-leb mitigatedEdgeCount (length edges) h) (and-false (holds stateRoom s))
-  no-curve-room (inr (inr h)) = rw (lt-leb mostMitigatedSteps (length prices) h, and-false (holds mitigatedEdgeCount edges)) (and-false (holds stateRoom s))
 
   pub curve-short : (length s < 3411) ⊎ ((length edges < 22) ⊎ (length prices < 20)) → (curveAnswer s edges prices ≡ negsuc 0) × (hourBidAnswer s edges prices ≡ negsuc 0)
   unfolding curveAnswer hourBidAnswer
-  curve-short h = let e = no-curve-room h in (rw e, rw e)
+  curve-short h = let e = no-room mitigatedEdgeCount mostMitigatedSteps h in (rw e, rw e)
+
+  -- the same of the default curve's call, which refuses nothing
+  pub default-answer : 3411 ≤ length s → 13 ≤ length edges → 11 ≤ length prices → defaultOfAnswer s edges prices ≡ pos 0
+  unfolding defaultOfAnswer
+  default-answer h k l = rw (all-room edgeCount priceCount h k l)
+
+  pub default-short : (length s < 3411) ⊎ ((length edges < 13) ⊎ (length prices < 11)) → defaultOfAnswer s edges prices ≡ negsuc 0
+  unfolding defaultOfAnswer
+  default-short h = rw (no-room edgeCount priceCount h)
 
   answer-room : curveAnswer s edges prices ≡ pos 0 → mitigatedRoom s edges prices ≡ true
   unfolding curveAnswer
@@ -244,17 +260,25 @@ sound-turn : (m : Market) (a : ℕ) (k : Quarter) (v : Interval) → turnRefusal
 unfolding turnRefusal
 sound-turn m a k v e = then-both (unless (ltb 0 a && ltb (k .passes) 3) 19) (intervalRefusal (m .resources) v) e .1
 
--- a verdict's numbers, from cell i on
+-- a verdict's own numbers, from cell i on
 pub record VerdictCells (l : List ℤ) (i : ℕ) (x : Verdict) : Type 0 where
   pub finding : cellAt l i ≡ pos (findingNumber (x .finding))
-  pub demand : cellAt l (i + 1) ≡ cellOf (x .demand)
-  pub left : cellAt l (i + 2) ≡ cellOf (x .left)
-  pub named : cellAt l (i + 3) ≡ cellOf (x .named)
-  pub withheld : (p : ℕ) → p < 16 → cellAt l (i + 4 + p) ≡ cellOf (getD (x .withheld) p 0)
+  pub demand : cellAt l (i + 1) ≡ pos (x .demand)
+  pub left : cellAt l (i + 2) ≡ pos (x .left)
+  pub named : cellAt l (i + 3) ≡ pos (x .named)
+  pub withheld : (p : ℕ) → p < 16 → cellAt l (i + 4 + p) ≡ pos (getD (x .withheld) p 0)
 
-verdict-in : (l : List ℤ) (i : ℕ) (x : Verdict) → length (x .withheld) ≡ 16 → Stands l i (verdictCells x) → VerdictCells l i x
+own : (n k : ℕ) → n ≤ k → k ≤ 9223372036854775807 → cellOf n ≡ pos n
+own n k h l = ap pos (same-quantity n (omega arith))
+
+-- three sellers of 16 are named
+named-few : (m : Market) (v : Interval) (c : ℕ) → verdictOf (pathIn m v c) .named ≤ 98304
+unfolding verdictOf named sellers
+named-few m v c = ⊎-elim (λ e. rw e (mask-bound 3 (offers (pathIn m v c)))) (λ e. rw e (omega arith)) (tested (binds (pathIn m v c)))
+
+verdict-in : (l : List ℤ) (i : ℕ) (x : Verdict) → length (x .withheld) ≡ 16 → VerdictFew x → x .named ≤ 98304 → Stands l i (verdictCells x) → VerdictCells l i x
 unfolding verdictCells
-verdict-in l i x n t =
+verdict-in l i x n few names t =
     let w = map cellOf (x .withheld) in
     let f = pos (findingNumber (x .finding)) in
     let d = cellOf (x .demand) in
@@ -266,10 +290,11 @@ verdict-in l i x n t =
     let four = stands-rest l (i + 3) m w (i + 4) (omega arith) three in
     record {
       finding = stands-first l i f (d ∷ k ∷ m ∷ w) t;
-      demand = stands-first l (i + 1) d (k ∷ m ∷ w) one;
-      left = stands-first l (i + 2) k (m ∷ w) two;
-      named = stands-first l (i + 3) m w three;
-      withheld = λ p h. four p (omega (arith, length-map (x .withheld) cellOf)) ∙ map-at cellOf 0 (x .withheld) p (omega arith);
+      demand = stands-first l (i + 1) d (k ∷ m ∷ w) one ∙ own (x .demand) most (few .demand) (omega arith);
+      left = stands-first l (i + 2) k (m ∷ w) two ∙ own (x .left) most (few .left) (omega arith);
+      named = stands-first l (i + 3) m w three ∙ own (x .named) 98304 names (omega arith);
+      withheld = λ p h.
+          four p (omega (arith, length-map (x .withheld) cellOf)) ∙ map-at cellOf 0 (x .withheld) p (omega arith) ∙ own (getD (x .withheld) p 0) most (few .withheld p) (omega arith);
     }
 
 -- an accepted interval, and an accepted pass, write the verdicts on their constraints
@@ -284,6 +309,7 @@ module _ (s verdicts : List ℤ) (v : Interval) where
       record {
         told = λ c l.
             verdict-in (sets verdicts 0 (verdictsCells (verdictsOf (marketIn s) v))) (20 * c) (verdictOf (pathIn (marketIn s) v c)) (withheld-room (pathIn (marketIn s) v c))
+            (verdict-few (marketIn s) v sound c l) (named-few (marketIn s) v c)
             (verdict-at (marketIn s) v (marketIn s .resources) sound (sets verdicts 0 (verdictsCells (verdictsOf (marketIn s) v)))
             (stands-stored verdicts 0 (verdictsCells (verdictsOf (marketIn s) v)) (omega (arith, verdicts-room (marketIn s) v (marketIn s .resources) sound))) c l);
         all = w;
@@ -315,6 +341,12 @@ module _ (s verdicts : List ℤ) (v : Interval) where
   unfolding verdictsAfterPass
   pass-verdicts-left h =
       unwritten (passAnswer s verdicts v) (sets verdicts 0 (verdictsCells (turnVerdicts (marketIn s) (standingIn s .accepted) (quarterIn s) v))) verdicts h
+
+-- why: -1 where the state or the slice is too short
+pub why-short : (s causes : List ℤ) (v : Interval) → (length s < 3411) ⊎ (length causes < 256) → whyAnswer s causes v ≡ negsuc 0
+unfolding whyAnswer
+why-short s causes v (inl h) = rw (lt-leb stateRoom (length s) h)
+why-short s causes v (inr h) = rw (lt-leb causeRoom (length causes) h, and-false (holds stateRoom s))
 
 pub causes-left : (s causes : List ℤ) (v : Interval) → (whyAnswer s causes v ≡ pos 0 → ⊥) → causesAfter s causes v ≡ causes
 unfolding causesAfter

@@ -43,7 +43,7 @@ use Rattle.rules_state.proofs.HourBack.{stored-back}
 use Rattle.rules_state.proofs.OpenedFits.{opened-fits}
 use Rattle.rules_state.proofs.StateCalls.{zero-opened, opening-answer, state-opened, opening-refused, opening-short, opening-past, interval-answer, interval-refused, interval-short, interval-touches, state-interval, pass-answer, pass-refused, pass-short, pass-touches, state-pass}
 use Rattle.rules_state.proofs.NumberCalls.{calls-in-numbers, calls-touch, called-hour, next-answer}
-use Rattle.rules_state.proofs.WrittenSlices.{CurveWritten, curve-answer, curve-short, curve-unwritten, five-minute-unwritten, hour-bid-unwritten, curve-written, five-minute-written, hour-bid-written, default-written, VerdictCells, interval-verdicts, pass-verdicts, interval-verdicts-left, pass-verdicts-left, causes-left, default-left}
+use Rattle.rules_state.proofs.WrittenSlices.{CurveWritten, curve-answer, curve-short, curve-unwritten, five-minute-unwritten, hour-bid-unwritten, curve-written, five-minute-written, hour-bid-written, default-written, VerdictCells, interval-verdicts, pass-verdicts, interval-verdicts-left, pass-verdicts-left, causes-left, default-left, default-answer, default-short, why-short}
 use Rattle.rules_state.proofs.DefaultNumbers.{default-in-numbers}
 use Rattle.rules_state.proofs.WhyNumbers.{why-answer, why-in-numbers, zeros-past}
 use Rattle.statements.proofs.Demand3.{default, IsComponent, OwnerSays, component-is}
@@ -373,6 +373,13 @@ module _ (s : List ℤ) (r : ℕ) (edges : List ℕ) (prices : List ℤ) where
     pub edges-past : (k : ℕ) → 13 ≤ k → getD (defaultOfEdges s r edges prices) k 0 ≡ getD edges k 0
     pub prices-past : (k : ℕ) → 11 ≤ k → getD (defaultOfPrices s r edges prices) k (pos 0) ≡ getD prices k (pos 0)
 
+  -- the call refuses nothing: 0, or -1 where the state or a slice is too short
+  pub default-number : 3411 ≤ length s → 13 ≤ length edges → 11 ≤ length prices → defaultOfAnswer s edges prices ≡ pos 0
+  default-number = default-answer s edges prices
+
+  pub default-too-short : (length s < 3411) ⊎ ((length edges < 13) ⊎ (length prices < 11)) → defaultOfAnswer s edges prices ≡ negsuc 0
+  default-too-short = default-short s edges prices
+
   pub default-says : defaultOfAnswer s edges prices ≡ pos 0 → WritesDefault
   default-says e = let w = default-written s edges prices r e in record { edge = w .0 .here; price = w .1 .here; edges-past = w .0 .past; prices-past = w .1 .past }
 
@@ -380,10 +387,10 @@ module _ (s : List ℤ) (r : ℕ) (edges : List ℕ) (prices : List ℤ) where
 -- a verdict from number i of a slice on: 0 competitive, 1 non-competitive, 2 not binding; demand; left; bit p for each seller named; what each of 16 portfolios withholds
 pub record VerdictSays (l : List ℤ) (i : ℕ) (x : Verdict) : Type 0 where
   pub finding : at l i ≡ pos (findingNumber (x .finding))
-  pub demand : at l (i + 1) ≡ pos (min (x .demand) 9223372036854775807)
-  pub left : at l (i + 2) ≡ pos (min (x .left) 9223372036854775807)
-  pub named : at l (i + 3) ≡ pos (min (x .named) 9223372036854775807)
-  pub withheld : (p : ℕ) → p < 16 → at l (i + 4 + p) ≡ pos (min (getD (x .withheld) p 0) 9223372036854775807)
+  pub demand : at l (i + 1) ≡ pos (x .demand)
+  pub left : at l (i + 2) ≡ pos (x .left)
+  pub named : at l (i + 3) ≡ pos (x .named)
+  pub withheld : (p : ℕ) → p < 16 → at l (i + 4 + p) ≡ pos (getD (x .withheld) p 0)
 
 verdict-says : {l : List ℤ} {i : ℕ} {x : Verdict} → VerdictCells l i x → VerdictSays l i x
 verdict-says v = record { finding = v .finding; demand = v .demand; left = v .left; named = v .named; withheld = v .withheld }
@@ -403,6 +410,7 @@ module _ (s l : List ℤ) (v : Interval) (r : ℕ) (edges : List ℕ) where
     pub interval-verdicts : (intervalAnswer s l v ≡ pos 0 → ⊥) → verdictsAfterInterval s l v ≡ l
     pub pass-verdicts : (passAnswer s l v ≡ pos 0 → ⊥) → verdictsAfterPass s l v ≡ l
     pub causes : (whyAnswer s l v ≡ pos 0 → ⊥) → causesAfter s l v ≡ l
+    pub no-causes : (length s < 3411) ⊎ (length l < 256) → whyAnswer s l v ≡ negsuc 0
     pub default-curve : (defaultOfAnswer s edges l ≡ pos 0 → ⊥) → (defaultOfEdges s r edges l ≡ edges) × (defaultOfPrices s r edges l ≡ l)
 
   pub left : Left
@@ -410,5 +418,6 @@ module _ (s l : List ℤ) (v : Interval) (r : ℕ) (edges : List ℕ) where
     interval-verdicts = interval-verdicts-left s l v;
     pass-verdicts = pass-verdicts-left s l v;
     causes = causes-left s l v;
+    no-causes = why-short s l v;
     default-curve = default-left s edges l r;
   }
