@@ -9,8 +9,8 @@
  * - It takes any numbers and any bytes. Whatever is wrong with them is answered, never left undefined.
  * - A pointer with a length stands for that many elements. Where the length is 0 nothing is read or written through it, so that it may be
  *   null, as that of an empty std::vector; elsewhere it must not be. Buffers that are written must not overlap anything else that is passed.
- * - It keeps nothing between calls, allocates nothing and reads no files: any number of threads may call it at once. A call takes
- *   at most 450 KB of stack, one of an hour in numbers a third of it; give a thread that calls it 1 MiB.
+ * - It keeps nothing between calls, allocates nothing and reads no files: any number of threads may call it at once. A run
+ *   takes at most 128 KB of stack, a call of an hour in numbers 150 KB; give a thread that calls it 256 KiB.
  *
  * Units: quantities are hundredths of a MW, prices 0.0001 dollar per MWh, heat rates Btu/kWh.
  *
@@ -34,8 +34,9 @@ extern "C" {
 /* How many bytes a text may have; a longer one is refused (18). */
 #define NOSKJERF_MAX_TEXT 65536
 
-/* How many bytes of stack a call takes at most. */
-#define NOSKJERF_STACK 450000
+/* How many bytes of stack a run takes at most, and any call. */
+#define NOSKJERF_RUN_STACK 128000
+#define NOSKJERF_STACK 150000
 
 /* How many numbers the last buffer of noskjerf_told has to have. */
 #define NOSKJERF_TOLD 2

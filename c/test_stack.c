@@ -119,7 +119,7 @@ int main(int argc, char **argv)
     CHECK(argc > 1);
     most = most_of_runs(argc - 1, argv + 1);
     printf("test_stack: a run takes %zu bytes of stack\n", most);
-    CHECK(most > 0 && most <= NOSKJERF_STACK);
+    CHECK(most > 0 && most <= NOSKJERF_RUN_STACK);
     hour = taken(call_hour);
     printf("test_stack: an hour in numbers takes %zu bytes of stack\n", hour);
     CHECK(hour > 0 && hour <= NOSKJERF_STACK);

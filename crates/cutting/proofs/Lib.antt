@@ -4,3 +4,4 @@ pub mod LimitLaws
 pub mod FloorLaws
 pub mod AnswerLaws
 pub mod CauseLaws
+pub mod CellLaws

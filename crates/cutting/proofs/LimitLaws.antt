@@ -16,7 +16,7 @@ use Rattle.rules_interval.proofs.IntervalLaws.{InLimits}
 use Rattle.rules_path.specs.declared.Verdict.{Verdict}
 use Rattle.rules_path.specs.declared.Finding.{Finding}
 use Rattle.rules_path.specs.declared.Finding.the-variants.{Competitive, NonCompetitive, NotBinding}
-use Rattle.cutting.specs.Weights.{weight, noVerdict, weightsOf, weighed, Weighable, Cuttable}
+use Rattle.cutting.specs.Weights.{weight, noVerdict, weightsOf, weighed, Weighable, Cuttable, Priced}
 use Rattle.cutting.proofs.WeightLaws.{sumZ-size}
 
 -- past what it holds, an array is padded with what a read past its end gives
@@ -58,14 +58,17 @@ module _ (m : ℕ) (shadow : List ℤ) (n : ℕ) (lmp factors : List ℤ) (param
   unfolding weightsOf weighs
   weights-length = padded-length 32 (pos 0) (listed weighs m) (omega (arith, listed-length weighs m, limits .constraints))
 
-  pub weighable : length factors ≡ 2048 → (r : ℕ) → r < n → Weighable factors (weightsOf shadow verdicts m) r m
-  weighable e r h = record {
+  pub weighable : (r : ℕ) → r < n → Weighable factors (weightsOf shadow verdicts m) r m
+  weighable r h = record {
     row = omega (arith, limits .few);
     few = limits .constraints;
-    rooms = (e, weights-length);
+    room = weights-length;
     factor = λ c l. abs-range 1000000 (cell factors (r * 32 + c)) (limits .factor-in r c h l);
     weighs = weights-size;
   }
+
+  pub priced : Priced m n lmp factors (weightsOf shadow verdicts m) parameter
+  priced = record { few = limits .few; weighable = weighable; lmp-in = limits .lmp-in; parameter-in = limits .parameter-in }
 
 -- what the limits of an interval leave
 pub cuttable : (k : ℕ) (v : Interval) → InLimits k v → Cuttable (v .constraints) (v .shadow) (v .resources) (v .lmp) (v .factors) (v .parameter)

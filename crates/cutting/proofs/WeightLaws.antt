@@ -68,7 +68,7 @@ weight-is d x = go (binds d) refl (isNonCompetitive d) refl
     go false e false f = rw (e, f)
 
 module _ (m : Market) (v : Interval) where
-  verdict-at : (c : ℕ) → c < v .constraints → getD (verdictsOf m v) c noVerdict ≡ verdictOf (pathIn m v c)
+  pub verdict-at : (c : ℕ) → c < v .constraints → getD (verdictsOf m v) c noVerdict ≡ verdictOf (pathIn m v c)
   unfolding verdictsOf
   verdict-at c l =
       padded-at 32 notBinding (listed (λ c. verdictOf (pathIn m v c)) (v .constraints)) c noVerdict (omega (arith, listed-length (λ c. verdictOf (pathIn m v c)) (v .constraints)))

@@ -8,6 +8,7 @@ use lib.ListN.{getD, length}
 use Rattle.rules_number.specs.Order.{inRange}
 use Rattle.rules_number.specs.Over.{listed, padded, upTo}
 use Rattle.rules_interval.specs.Intervals.{cell}
+use Rattle.rules_mitigation.specs.declared.FloorPrice.{FloorPrice}
 use Rattle.rules_hour.specs.Cuts.{cutBy}
 use Rattle.rules_hour.specs.Hours.{cutFloor}
 use Rattle.rules_hour.specs.declared.Floor.{Floor}
@@ -42,7 +43,7 @@ weighed factors weights r m = negℤ (sumToZ (λ c. cell factors (r * 32 + c) *�
 pub record Weighable (factors weights : List ℤ) (r m : ℕ) : Type 0 where
   pub row : r < 64
   pub few : m ≤ 32
-  pub rooms : (length factors ≡ 2048) × (length weights ≡ 32)
+  pub room : length weights ≡ 32
   pub factor : (c : ℕ) → c < m → natAbs (cell factors (r * 32 + c)) ≤ 1000000
   pub weighs : (c : ℕ) → natAbs (cell weights c) ≤ 100000000
 
@@ -55,6 +56,17 @@ pub record Cuttable (m : ℕ) (shadow : List ℤ) (n : ℕ) (lmp factors : List 
   pub factor-in : (r c : ℕ) → r < n → c < m → inRange (negℤ (pos 1000000)) (pos 1000000) (cell factors (r * 32 + c)) ≡ true
   pub parameter-in : inRange (pos 0) (pos 100) parameter ≡ true
 
+-- the same, of values whose constraints have weights
+pub record Priced (m n : ℕ) (lmp factors weights : List ℤ) (parameter : ℤ) : Type 0 where
+  pub few : n ≤ 64
+  pub weighable : (r : ℕ) → r < n → Weighable factors weights r m
+  pub lmp-in : (r : ℕ) → r < n → inRange (negℤ (pos 100000000)) (pos 100000000) (cell lmp r) ≡ true
+  pub parameter-in : inRange (pos 0) (pos 100) parameter ≡ true
+
+-- the cut of resource r
+abbrev pub weighedCut : List ℤ → List ℤ → List ℤ → ℤ → List ℤ → ℕ → ℕ → FloorPrice
+weighedCut lmp dispatch factors parameter weights m r = cutBy (cell dispatch r) (cell lmp r) (weighed factors weights r m) parameter
+
 -- the floor prices of the first n resources, each after its cut
 unfoldable pub weighedFloors : List ℤ → List ℤ → List ℤ → ℤ → List ℤ → ℕ → ℕ → List Floor → List Floor
-weighedFloors lmp dispatch factors parameter weights m n floors = upTo (λ r x. cutFloor (cutBy (cell dispatch r) (cell lmp r) (weighed factors weights r m) parameter) x) 0 n floors
+weighedFloors lmp dispatch factors parameter weights m n floors = upTo (λ r x. cutFloor (weighedCut lmp dispatch factors parameter weights m r) x) 0 n floors

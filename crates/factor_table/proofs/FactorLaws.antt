@@ -9,9 +9,9 @@ use native.Mathlib.Omega.{arith}
 use native.Mathlib.Nat.{suc-mul, mul-le-mul-right}
 use borrow.Author.Tests.{le-leb, lt-leb}
 use lib.Dec.{leb, ltb}
-use lib.ListN.{length, replicate, length-replicate, length-set}
+use lib.ListN.{length, length-set}
 use lib.Seq.{sets}
-use lib.IntN.{ℤ, pos}
+use lib.IntN.{ℤ}
 use Rattle.rules_number.specs.Order.{natOf}
 use Rattle.rules_number.proofs.OverLaws.{never, both, le-or-lt}
 use Rattle.rules_text.specs.Numbers.{Line, Row, lines, row}
@@ -114,6 +114,12 @@ constraint-below n m i o x e =
     let d = both (isDeclared n (cell 0 x)) (isDeclared m (cell 1 x) && leb i (placeOf m x)) (suits-of (isFactor n m i) o x e) .1 in
     declared-below m (cell 1 x) (both (isDeclared m (cell 1 x)) (leb i (placeOf m x)) d .0)
 
+-- factors that are stored leave as many cells
+pub length-stored : (a : List ℤ) (xs : List Row) → length (withFactors a xs) ≡ length a
+unfolding withFactors
+length-stored a [] = refl
+length-stored a (x ∷ xs) = length-stored (withFactor a x) xs ∙ length-set a (factorCell (natOf (cell 0 x)) (natOf (cell 1 x))) (cell 2 x)
+
 -- ---- the loop: the rows that are still to be read, stored in what is stored, are the whole
 sets-none : (i : ℕ) (xs : List ℤ) → sets [] i xs ≡ []
 sets-none i [] = refl
@@ -140,20 +146,21 @@ module _ (n m : ℕ) where
     pub lines : Loop 2 (isFactor n m) up (cell 2) count (place m r c) [] t N [] L
     pub stores : withFactors a (Left (place m r c) t) ≡ S
     pub width : c ≤ m
-    pub long : length a ≡ 2048
 
-  pub reads-start : (t : List ℕ) → Reads 0 0 0 (replicate 2048 (pos 0)) t (length (factorRows n m (lines t))) (withFactors (replicate 2048 (pos 0)) (factorRows n m (lines t))) (lines t)
+  pub reads-start : (a : List ℤ) (t : List ℕ) → Reads 0 0 0 a t (length (factorRows n m (lines t))) (withFactors a (factorRows n m (lines t))) (lines t)
   unfolding factorRows
-  reads-start t =
+  reads-start a t =
       let z : place m 0 0 ≡ 0 = omega arith in
       record {
         lines = record { count = omega (arith, ap (λ (i : ℕ). length (Left i t)) z); stores = sets-none 0 (map (cell 2) (Left (place m 0 0) t)); rest = refl };
-        stores = ap (λ (i : ℕ). withFactors (replicate 2048 (pos 0)) (Left i t)) z;
+        stores = ap (λ (i : ℕ). withFactors a (Left i t)) z;
         width = omega arith;
-        long = length-replicate 2048 (pos 0);
       }
 
   module _ (count r c : ℕ) (a : List ℤ) (t : List ℕ) (N : ℕ) (S : List ℤ) (L : List Line) (h : Reads count r c a t N S L) where
+    pub room : length a ≡ length S
+    room = sym (length-stored a (Left (place m r c) t)) ∙ ap length (h .stores)
+
     pub stored : ifSuits (isFactor n m (place m r c)) (row 3 (line t)) ≡ none → a ≡ S
     unfolding withFactors
     stored e = ap (withFactors a) (sym (left-none (place m r c) t e)) ∙ h .stores
@@ -176,7 +183,6 @@ module _ (n m : ℕ) where
             lines = k .again;
             stores = ap (λ (l : List ℤ). withFactors l (Left (place m r' c') u)) eb ∙ ap (withFactors a) (sym y) ∙ h .stores;
             width = w;
-            long = ap length eb ∙ simp length-set (h .long);
           };
           fewer = k .fewer;
           below = k .below;

@@ -1,12 +1,13 @@
 // The table of an interval's shift factors, at an offset of a lent text (paper 01, Text). The contracts cite specs/Factors and the definitions of rules_text.
+use cells::put;
 use rules_interval::Interval;
 use text_lines::three_at;
+use text_tables::Table;
 ghost use mathlib.Core.Path.{_≡_};
 ghost use mathlib.Core.Option.{none};
 ghost use Prim.Native.Nat.{_+_, _≤_, _<_};
 ghost use lib.Dec.{leb};
-ghost use lib.ListN.{length, drop, replicate};
-ghost use lib.IntN.{pos};
+ghost use lib.ListN.{length, drop};
 ghost use Rattle.rules_text.specs.Numbers.{lines, row};
 ghost use Rattle.rules_text.specs.Tables.{ifSuits};
 ghost use Rattle.rules_text.specs.Offsets.{lineAt, bytesOf};
@@ -21,13 +22,6 @@ struct Factor {
     cell: usize,
     value: i64,
     next: usize,
-}
-
-// The factor table: how many lines it has, the factors for which there is room, and the offset of the line after it.
-pub struct Factors {
-    pub count: usize,
-    pub factors: [i64; Interval::MAX_FACTORS],
-    pub next: usize,
 }
 
 // Whether a value is one of n declared ids.
@@ -112,32 +106,24 @@ fn factor_at(s: &[u8], at: usize, n: usize, m: usize, r: usize, c: usize) -> Fac
     }
 }
 
-// The factor table's lines of values at an offset, of n resources and m constraints.
-pub fn factors_at(s: &[u8], at: usize, n: usize, m: usize) -> Factors
+// The factor table's lines of values at an offset, of n resources and m constraints: all are counted, and the factors for which there are cells are kept.
+// Every other cell stays as it was.
+pub fn factors_into(s: &[u8], at: usize, n: usize, m: usize, cells: &mut [i64]) -> Table
     ensures { λ r. ⌜ r .count ≡ length (factorRows n m (lines (drop at (now (s .entry))))) ⌝ }
-    ensures { λ r. ⌜ r .factors ≡ withFactors (replicate 2048 (pos 0)) (factorRows n m (lines (drop at (now (s .entry))))) ⌝ }
+    ensures { λ r. ⌜ now (cells .exit) ≡ withFactors (now (cells .entry)) (factorRows n m (lines (drop at (now (s .entry))))) ⌝ }
     ensures { λ r. ⌜ lines (drop (r .next) (now (s .entry))) ≡ drop (r .count) (lines (drop at (now (s .entry)))) ⌝ }
     ensures { λ r. ⌜ r .next ≡ at + bytesOf (r .count) (lines (drop at (now (s .entry)))) ⌝ }
 {
-    let mut factors = [0i64; Interval::MAX_FACTORS];
     let mut count = 0;
     let mut next = at;
     let mut r = 0;
     let mut c = 0;
     loop {
         let f = factor_at(s, next, n, m, r, c);
-        let cell = f.cell;
-        let value = f.value;
         if !f.ok {
-            return Factors {
-                count,
-                factors,
-                next,
-            };
+            return Table { count, next };
         }
-        if cell < Interval::MAX_FACTORS {
-            factors[cell] = value;
-        }
+        put(cells, f.cell, f.value);
         count += 1;
         next = f.next;
         r = f.resource;

@@ -1,20 +1,41 @@
 // The checks of an interval (paper 01, Interval and hour: Limits; Refused, by place). The contracts cite the definitions of rules_interval.
 ghost use mathlib.Core.Path.{_≡_};
-ghost use Prim.Native.Nat.{_≤_};
-ghost use lib.ListN.{length};
+ghost use mathlib.Core.Bool.{true};
+ghost use Prim.Native.Nat.{_+_, _≤_};
+ghost use lib.IntN.{pos, negℤ};
+ghost use lib.ListN.{length, drop};
+ghost use Rattle.rules_number.specs.Order.{inRange};
+ghost use Rattle.rules_number.specs.Over.{allTo};
 ghost use Rattle.rules_curve.specs.Refusals.{outcomeNumber};
-ghost use Rattle.rules_interval.specs.Intervals.{allWithin, factorsGood, rangesGood, outputGood, outputsGood, intervalOf, intervalRefusal};
+ghost use Rattle.rules_interval.specs.Intervals.{cell, allWithin, factorsGood, rangesGood, outputGood, outputsGood, intervalOf, intervalRefusal};
 use rules_curve::Curve;
 use rules_curve::Outcome;
 use rules_curve::Refusal;
 use rules_interval::Interval;
 
-// Whether the first n numbers lie between lo and hi.
-fn all_within(numbers: &[i64], n: usize, lo: i64, hi: i64) -> bool
-    requires { ⌜ n ≤ length (now numbers) ⌝ }
+// Whether four numbers from an index on lie between lo and hi.
+fn four_within(numbers: &[i64], i: usize, lo: i64, hi: i64) -> bool
+    requires { ⌜ i + 4 ≤ length (now numbers) ⌝ }
+    ensures { λ r. ⌜ r ≡ allTo (λ k. inRange lo hi (cell (now (numbers .entry)) (i + k))) 4 ⌝ }
+{
+    if !number::within(numbers[i], lo, hi) {
+        return false;
+    }
+    if !number::within(numbers[i + 1], lo, hi) {
+        return false;
+    }
+    if !number::within(numbers[i + 2], lo, hi) {
+        return false;
+    }
+    number::within(numbers[i + 3], lo, hi)
+}
+
+// Whether the first n numbers lie between lo and hi, where those before an index do.
+fn rest_within(numbers: &[i64], from: usize, n: usize, lo: i64, hi: i64) -> bool
+    requires { ⌜ (from ≤ n) × ((n ≤ length (now numbers)) × (allWithin lo hi (now numbers) from ≡ true)) ⌝ }
     ensures { λ r. ⌜ r ≡ allWithin lo hi (now (numbers .entry)) n ⌝ }
 {
-    let mut i: usize = 0;
+    let mut i = from;
     while i < n {
         if !number::within(numbers[i], lo, hi) {
             return false;
@@ -24,20 +45,46 @@ fn all_within(numbers: &[i64], n: usize, lo: i64, hi: i64) -> bool
     true
 }
 
-// Whether the factors of n resources on m constraints are in range.
+// Whether the first n numbers lie between lo and hi.
+fn all_within(numbers: &[i64], n: usize, lo: i64, hi: i64) -> bool
+    requires { ⌜ n ≤ length (now numbers) ⌝ }
+    ensures { λ r. ⌜ r ≡ allWithin lo hi (now (numbers .entry)) n ⌝ }
+{
+    let mut i: usize = 0;
+    while 4 <= n - i {
+        if !four_within(numbers, i, lo, hi) {
+            return false;
+        }
+        i += 4;
+    }
+    rest_within(numbers, i, n, lo, hi)
+}
+
+// Whether the factors from a cell on are in range on m constraints. A factor past the end is 0.
+fn row_good(factors: &[i64], at: usize, m: usize) -> bool
+    ensures { λ r. ⌜ r ≡ allWithin (negℤ (pos 1000000)) (pos 1000000) (drop at (now (factors .entry))) m ⌝ }
+{
+    if factors.len() <= at {
+        return true;
+    }
+    let left = factors.len() - at;
+    let held = if left < m { left } else { m };
+    all_within(
+        &factors[at..],
+        held,
+        -Interval::MAX_FACTOR,
+        Interval::MAX_FACTOR,
+    )
+}
+
+// The same of n resources.
 fn factors_good(factors: &[i64], n: usize, m: usize) -> bool
-    requires { ⌜ (length (now factors) ≡ 2048) × ((n ≤ 64) × (m ≤ 32)) ⌝ }
+    requires { ⌜ n ≤ 64 ⌝ }
     ensures { λ r. ⌜ r ≡ factorsGood (now (factors .entry)) n m ⌝ }
 {
     let mut r: usize = 0;
     while r < n {
-        let at = r * Interval::MAX_CONSTRAINTS;
-        if !all_within(
-            &factors[at..],
-            m,
-            -Interval::MAX_FACTOR,
-            Interval::MAX_FACTOR,
-        ) {
+        if !row_good(factors, r * Interval::MAX_CONSTRAINTS, m) {
             return false;
         }
         r += 1;
@@ -83,7 +130,7 @@ fn ranges_good<'a>(
     m: usize,
 ) -> bool
     requires counts { ⌜ (n ≤ 64) × (m ≤ 32) ⌝ }
-    requires rooms { ⌜ (length (now shadow) ≡ 32) × ((length (now lmp) ≡ 64) × (length (now factors) ≡ 2048)) ⌝ }
+    requires rooms { ⌜ (length (now shadow) ≡ 32) × (length (now lmp) ≡ 64) ⌝ }
     ensures { λ r. ⌜ r ≡ rangesGood (now (shadow .entry)) (now (lmp .entry)) parameter (now (factors .entry)) n m ⌝ }
 {
     if !all_within(shadow, m, 0, Interval::MAX_SHADOW) {
@@ -108,7 +155,7 @@ pub fn checked<'a>(
     dispatch: &'a [i64; Interval::MAX_RESOURCES],
     available: &'a [i64; Interval::MAX_RESOURCES],
     floor: &'a [i64; Interval::MAX_RESOURCES],
-    factors: &'a [i64; Interval::MAX_FACTORS],
+    factors: &'a [i64],
     parameter: i64,
 ) -> Outcome
     ensures { λ r. ⌜ outcomeNumber r ≡ intervalRefusal known (intervalOf constraints (now (shadow .entry)) resources (now (lmp .entry)) (now (dispatch .entry)) (now (available .entry)) (now (floor .entry)) (now (factors .entry)) parameter) ⌝ }

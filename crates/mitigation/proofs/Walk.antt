@@ -22,6 +22,54 @@ use Rattle.rules_mitigation.specs.declared.Mitigated.{Mitigated}
 abbrev pub restOf : (ℤ → ℤ → ℤ) → List Step → List Step → ℕ → ℕ → ℕ → List Step
 restOf f bs ds at i j = segmentsN f ((length bs - i) + (length ds - j)) at (drop i bs) (drop j ds)
 
+-- a turn of the walk: what is left before it, by what is left after it
+module _ (f : ℤ → ℤ → ℤ) (bs ds : List Step) (at i j : ℕ) where
+  module _ (e b d : Step) (hi : i < length bs) (hj : j < length ds) (eb : getD bs i e ≡ b) (ed : getD ds j e ≡ d) where
+    one : (length bs - i) + (length ds - j) ≡ suc ((length bs - i) + (length ds - (j + 1)))
+    one = omega arith
+
+    one′ : (length bs - i) + (length ds - j) ≡ suc ((length bs - (i + 1)) + (length ds - j))
+    one′ = omega arith
+
+    opened : drop i bs ≡ b ∷ drop (i + 1) bs
+    opened = rw (add-one, ← eb) (drop-cons bs i e hi)
+
+    opened′ : drop j ds ≡ d ∷ drop (j + 1) ds
+    opened′ = rw (add-one, ← ed) (drop-cons ds j e hj)
+
+    pub rest-skip : d .end ≤ at → restOf f bs ds at i j ≡ restOf f bs ds at i (j + 1)
+    rest-skip h = rw (one, opened, opened′) (segments-skip f _ at _ _ _ _ h)
+
+    pub rest-default : at < d .end → d .end < b .end → restOf f bs ds at i j ≡ stepTo (d .end) (f (b .price) (d .price)) ∷ restOf f bs ds (d .end) i (j + 1)
+    rest-default h k = rw (one, opened, opened′) (segments-default f _ at _ _ _ _ h k)
+
+    pub rest-bid : at < d .end → b .end ≤ d .end → restOf f bs ds at i j ≡ stepTo (b .end) (f (b .price) (d .price)) ∷ restOf f bs ds (b .end) (i + 1) j
+    rest-bid h k = rw (one′, opened, opened′) (segments-bid f _ at _ _ _ _ h k)
+
+  -- nothing is left past the bid, nor past the default curve
+  pub rest-bid-end : length bs ≤ i → restOf f bs ds at i j ≡ []
+  unfolding segmentsN
+  rest-bid-end h = nothing ((length bs - i) + (length ds - j))
+    where
+      none : drop i bs ≡ []
+      none = drop-of-length-le bs h
+
+      nothing : (m : ℕ) → segmentsN f m at (drop i bs) (drop j ds) ≡ []
+      nothing zero = refl
+      nothing (suc m) = rw none
+
+  pub rest-default-end : length ds ≤ j → restOf f bs ds at i j ≡ []
+  unfolding segmentsN
+  rest-default-end h = nothing ((length bs - i) + (length ds - j)) (drop i bs)
+    where
+      none : drop j ds ≡ []
+      none = drop-of-length-le ds h
+
+      nothing : (m : ℕ) (l : List Step) → segmentsN f m at l (drop j ds) ≡ []
+      nothing zero l = refl
+      nothing (suc m) [] = refl
+      nothing (suc m) (x ∷ l) = rw none
+
 pub record Walked (f : ℤ → ℤ → ℤ) (bs ds : List Step) (start : ℕ) (steps : List Step) (at i j n : ℕ) : Type 0 where
   pub done : List Step
   pub counted : length done ≡ n
@@ -37,18 +85,6 @@ module _ (f : ℤ → ℤ → ℤ) (bs ds : List Step) (start : ℕ) where
   walked-start = record { done = []; counted = refl; few = omega arith; in-bid = omega arith; in-default = omega arith; held = refl; left = rw (sub-zero, sub-zero) }
 
   module _ (steps : List Step) (at i j n : ℕ) (e b d : Step) (w : Walked f bs ds start steps at i j n) (hi : i < length bs) (hj : j < length ds) (eb : getD bs i e ≡ b) (ed : getD ds j e ≡ d) where
-    one : (length bs - i) + (length ds - j) ≡ suc ((length bs - i) + (length ds - (j + 1)))
-    one = omega arith
-
-    one′ : (length bs - i) + (length ds - j) ≡ suc ((length bs - (i + 1)) + (length ds - j))
-    one′ = omega arith
-
-    opened : drop i bs ≡ b ∷ drop (i + 1) bs
-    opened = rw (add-one, ← eb) (drop-cons bs i e hi)
-
-    opened′ : drop j ds ≡ d ∷ drop (j + 1) ds
-    opened′ = rw (add-one, ← ed) (drop-cons ds j e hj)
-
     pub walked-skip : d .end ≤ at → Walked f bs ds start steps at i (j + 1) n
     walked-skip h = record {
       done = w .done;
@@ -57,7 +93,7 @@ module _ (f : ℤ → ℤ → ℤ) (bs ds : List Step) (start : ℕ) where
       in-bid = omega arith;
       in-default = omega arith;
       held = w .held;
-      left = ap (λ (l : List Step). w .done ++ l) (sym (rw (one, opened, opened′) (segments-skip f _ at _ _ _ _ h))) ∙ w .left;
+      left = ap (λ (l : List Step). w .done ++ l) (sym (rest-skip f bs ds at i j e b d hi hj eb ed h)) ∙ w .left;
     }
 
     module _ (few : n < mostMitigatedSteps) (p : ℤ) (is : p ≡ f (b .price) (d .price)) (h : at < d .end) where
@@ -69,7 +105,7 @@ module _ (f : ℤ → ℤ → ℤ) (bs ds : List Step) (start : ℕ) where
         in-bid = omega arith;
         in-default = omega arith;
         held = rw (w .held) (padded-more mostMitigatedSteps blankStep (w .done) n _ (w .counted) few);
-        left = append-assoc (w .done) _ _ ∙ rw is (ap (λ (l : List Step). w .done ++ l) (sym (rw (one, opened, opened′) (segments-default f _ at _ _ _ _ h k))) ∙ w .left);
+        left = append-assoc (w .done) _ _ ∙ rw is (ap (λ (l : List Step). w .done ++ l) (sym (rest-default f bs ds at i j e b d hi hj eb ed h k)) ∙ w .left);
       }
 
       pub walked-bid : b .end ≤ d .end → Walked f bs ds start (set steps n (stepTo (b .end) p)) (b .end) (i + 1) j (n + 1)
@@ -80,7 +116,7 @@ module _ (f : ℤ → ℤ → ℤ) (bs ds : List Step) (start : ℕ) where
         in-bid = omega arith;
         in-default = omega arith;
         held = rw (w .held) (padded-more mostMitigatedSteps blankStep (w .done) n _ (w .counted) few);
-        left = append-assoc (w .done) _ _ ∙ rw is (ap (λ (l : List Step). w .done ++ l) (sym (rw (one′, opened, opened′) (segments-bid f _ at _ _ _ _ h k))) ∙ w .left);
+        left = append-assoc (w .done) _ _ ∙ rw is (ap (λ (l : List Step). w .done ++ l) (sym (rest-bid f bs ds at i j e b d hi hj eb ed h k)) ∙ w .left);
       }
 
   module _ (steps : List Step) (at i j n : ℕ) (w : Walked f bs ds start steps at i j n) where
@@ -88,27 +124,10 @@ module _ (f : ℤ → ℤ → ℤ) (bs ds : List Step) (start : ℕ) where
     ended x = rw (← x, w .held, ← (w .counted))
 
     pub walked-bid-end : length bs ≤ i → _≡_ {A = Mitigated} (record { start = start; count = n; steps = steps }) (mitigatedOf start (segments f start bs ds))
-    unfolding segmentsN
-    walked-bid-end h = ended (sym (append-nil (w .done)) ∙ ap (λ (l : List Step). w .done ++ l) (sym (nothing ((length bs - i) + (length ds - j)))) ∙ w .left)
-      where
-        none : drop i bs ≡ []
-        none = drop-of-length-le bs h
-
-        nothing : (m : ℕ) → segmentsN f m at (drop i bs) (drop j ds) ≡ []
-        nothing zero = refl
-        nothing (suc m) = rw none
+    walked-bid-end h = ended (sym (append-nil (w .done)) ∙ ap (λ (l : List Step). w .done ++ l) (sym (rest-bid-end f bs ds at i j h)) ∙ w .left)
 
     pub walked-default-end : length ds ≤ j → _≡_ {A = Mitigated} (record { start = start; count = n; steps = steps }) (mitigatedOf start (segments f start bs ds))
-    unfolding segmentsN
-    walked-default-end h = ended (sym (append-nil (w .done)) ∙ ap (λ (l : List Step). w .done ++ l) (sym (nothing ((length bs - i) + (length ds - j)) (drop i bs))) ∙ w .left)
-      where
-        none : drop j ds ≡ []
-        none = drop-of-length-le ds h
-
-        nothing : (m : ℕ) (l : List Step) → segmentsN f m at l (drop j ds) ≡ []
-        nothing zero l = refl
-        nothing (suc m) [] = refl
-        nothing (suc m) (x ∷ l) = rw none
+    walked-default-end h = ended (sym (append-nil (w .done)) ∙ ap (λ (l : List Step). w .done ++ l) (sym (rest-default-end f bs ds at i j h)) ∙ w .left)
 
 -- ---- joining
 pub record Joining (l : List Step) (steps : List Step) (last : Step) (i n : ℕ) : Type 0 where

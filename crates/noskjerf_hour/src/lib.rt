@@ -79,17 +79,24 @@ pub extern "C" fn noskjerf_interval(
         factors,
         parameter,
     );
-    let standing = state_cells::standing_in(state);
-    let market = market_cells::market_in(state);
-    let taken = taking::take_interval(standing, market, v);
-    let outcome = taken.outcome;
+    let mut found = taking::none_found();
+    let outcome = taking::take_into(
+        state,
+        constraints,
+        &v.shadow,
+        resources,
+        &v.lmp,
+        &v.dispatch,
+        &v.available,
+        &v.floor,
+        &v.factors,
+        parameter,
+        &mut found,
+    );
     if let Outcome::Refused(refusal) = outcome {
         return curve::refusal_number(refusal) as i64;
     }
-    let left = taken.standing;
-    let found = taken.verdicts;
-    state_puts::put_standing(state, left);
     state_puts::put_quarter(state, standing::fresh_quarter());
-    verdict_cells::put_verdicts(verdicts, found);
+    taking::put_found(verdicts, &found);
     0
 }

@@ -35,17 +35,23 @@ pub extern "C" fn noskjerf_pass(
         factors,
         parameter,
     );
-    let quarter = state_cells::quarter_in(state);
-    let accepted = cells::whole_at(state, 0);
-    let market = market_cells::market_in(state);
-    let passed = taking::take_pass(quarter, accepted, market, v);
-    let outcome = passed.outcome;
+    let mut found = taking::none_found();
+    let outcome = taking::pass_into(
+        state,
+        constraints,
+        &v.shadow,
+        resources,
+        &v.lmp,
+        &v.dispatch,
+        &v.available,
+        &v.floor,
+        &v.factors,
+        parameter,
+        &mut found,
+    );
     if let Outcome::Refused(refusal) = outcome {
         return curve::refusal_number(refusal) as i64;
     }
-    let left = passed.quarter;
-    let found = passed.verdicts;
-    state_puts::put_quarter(state, left);
-    verdict_cells::put_verdicts(verdicts, found);
+    taking::put_found(verdicts, &found);
     0
 }

@@ -39,7 +39,7 @@ fn refused(outcome: Outcome) -> Entry
 }
 
 // Whether month, portfolio and resource count are within their limits: else 9.
-fn counts_good(month: i64, portfolios: usize, resources: usize) -> bool
+pub fn counts_good(month: i64, portfolios: usize, resources: usize) -> bool
     ensures { λ r. ⌜ r ≡ countsWithin month portfolios resources ⌝ }
 {
     if !number::within(month, 1, Opening::MAX_MONTH) {
@@ -57,14 +57,20 @@ fn counts_good(month: i64, portfolios: usize, resources: usize) -> bool
     resources <= Interval::MAX_RESOURCES
 }
 
+// The mark of portfolio p: 0 past the last.
+fn mark_at(sellers: &[i64], p: usize) -> i64
+    ensures { λ r. ⌜ r ≡ cell (now (sellers .entry)) p ⌝ }
+{
+    if p < sellers.len() { sellers[p] } else { 0 }
+}
+
 // Whether each seller is 0 or 1: else 10.
-fn sellers_good(sellers: &[i64; Market::MAX_PORTFOLIOS], portfolios: usize) -> bool
-    requires { ⌜ portfolios ≤ 16 ⌝ }
+pub fn sellers_good(sellers: &[i64], portfolios: usize) -> bool
     ensures { λ r. ⌜ r ≡ allTo (λ p. isMark (cell (now (sellers .entry)) p)) portfolios ⌝ }
 {
     let mut p: usize = 0;
     while p < portfolios {
-        if !number::within(sellers[p], 0, 1) {
+        if !number::within(mark_at(sellers, p), 0, 1) {
             return false;
         }
         p += 1;

@@ -3,17 +3,19 @@ use mathlib.Core.Bool.{true, false, cond}
 use mathlib.Core.List.{List, []}
 use mathlib.Core.Logic.{_⊎_, inl, inr}
 use mathlib.Core.Path.{_≡_, sym, ap, _∙_}
-use Prim.Native.Nat.{ℕ, _-_, _≤_, _<_}
+use Prim.Native.Nat.{ℕ, _-_, _*_, _≤_, _<_}
 use native.Mathlib.Nat.{le-refl, le-trans, le-of-eq, eq-zero-or-pos}
 use native.Mathlib.Omega.{arith}
 use lib.Dec.{ltb, eqb}
 use lib.IntN.{ℤ, pos}
-use Rattle.rules_number.proofs.OverLaws.{listed-at, listed-same}
+use lib.ListN.{getD}
+use Rattle.rules_number.specs.Order.{natOf}
+use Rattle.rules_number.proofs.OverLaws.{listed-at, listed-same, sum-same}
 use Rattle.rules_path.specs.declared.Finding.{Finding}
 use Rattle.rules_path.specs.declared.Finding.the-variants as finding
 use Rattle.path.specs.declared.constraint.Tally.{Tally}
 use Rattle.path.specs.declared.constraint.Top.{Top}
-use Rattle.rules_path.specs.Paths.{Path, binds, demand, supply, share, withholdable, offer, offers, at, top, total, sellers, named, left, isNonCompetitive}
+use Rattle.rules_path.specs.Paths.{Path, binds, effect, demand, supply, share, withholdable, offer, offers, at, top, total, sellers, named, left, isNonCompetitive}
 use Rattle.rules_path.specs.Verdicts.{pathOf, verdictOf, notBinding}
 use Rattle.path.specs.Tallies.{tallyOf, topOf, Sound, Held}
 use Rattle.verdict.specs.Offers.{offersOf}
@@ -68,3 +70,19 @@ module _ (shadow : ℤ) (factors dispatch available floor : List ℤ) (portfolio
           → record { finding = f; demand = t .demand; left = t .supply - r .total; named = r .named; withheld = r .withheld } ≡ verdictOf judged
       unfolding verdictOf isNonCompetitive left named demand supply
       judgement f b f-is = rw (f-is, t-is, sellers-are, b)
+
+-- a verdict asks for the portfolios of the resources that there are
+module _ (shadow : ℤ) (factors dispatch available floor : List ℤ) (p q selling : List ℕ) (resources c : ℕ) (same : (r : ℕ) → r < resources → at p r ≡ at q r) where
+  abbrev by : List ℕ → Path
+  by portfolio = pathOf shadow factors dispatch available floor portfolio selling resources c
+
+  offers-same : offers (by p) ≡ offers (by q)
+  unfolding offers offer withholdable share
+  offers-same =
+      listed-same _ _ 16
+      (λ k h. ap (λ (x : ℕ). cond (eqb (at selling k) 1) x 0)
+      (sum-same _ _ resources (λ r l. ap (λ (x : ℕ). cond (eqb x k) (effect (by p) r * (natOf (getD available r (pos 0)) - natOf (getD floor r (pos 0)))) 0) (same r l))))
+
+  pub verdict-same : verdictOf (by p) ≡ verdictOf (by q)
+  unfolding verdictOf isNonCompetitive left named sellers demand supply
+  verdict-same = rw offers-same

@@ -1,13 +1,45 @@
--- A refusal carries no verdicts. Assumes nothing.
+-- A refusal carries no verdicts, and verdicts are put one after the other. Assumes nothing.
 use mathlib.Core.List.{List}
-use mathlib.Core.Path.{_≡_, refl}
-use Prim.Native.Nat.{ℕ, zero, suc, _<_}
+use mathlib.Core.Path.{_≡_, refl, sym, ap, ap₂, _∙_}
+use Prim.Native.Nat.{ℕ, zero, suc, _+_, _*_, _≤_, _<_}
 use native.Mathlib.Omega.{arith}
-use lib.ListN.{replicate}
+use lib.IntN.{ℤ}
+use lib.ListN.{length, getD, replicate}
+use lib.Seq.{sets}
+use Rattle.rules_number.specs.Over.{listed}
+use Rattle.rules_number.proofs.OverLaws.{listed-length, listed-at}
 use Rattle.rules_path.specs.Verdicts.{notBinding}
 use Rattle.rules_path.specs.Judgements.{verdictsUnless}
 use Rattle.rules_path.specs.declared.Verdict.{Verdict}
+use Rattle.rules_state.specs.Layout.{verdictWidth}
+use Rattle.rules_state.specs.Takes.{ifAccepted}
+use Rattle.rules_state.specs.Verdicts.{verdictCells, verdictsCells}
+use Rattle.cells.proofs.PutLaws.{BlocksLeft, blocks-begin, blocks-go-on, blocks-end}
 
 pub refused-verdicts : (n : ℕ) (l : List Verdict) → 0 < n → verdictsUnless n l ≡ replicate 32 notBinding
 refused-verdicts zero l h = absurd (omega arith)
 refused-verdicts (suc n) l h = refl
+
+pub refused-cells : (n : ℕ) (written l : List ℤ) → 0 < n → l ≡ ifAccepted n written l
+refused-cells zero written l h = absurd (omega arith)
+refused-cells (suc n) written l h = refl
+
+-- a loop that puts the verdict on each of n constraints: what is left, put where the loop stands, gives the whole
+module _ (f : ℕ → Verdict) (n : ℕ) (before : List ℤ) where
+  abbrev pub Puts : List ℤ → ℕ → Type 0
+  Puts out c = BlocksLeft verdictCells verdictWidth (listed f n) before 0 out c
+
+  pub puts-begin : Puts before 0
+  puts-begin = blocks-begin verdictCells verdictWidth (listed f n) before 0
+
+  pub puts-go-on : (out : List ℤ) (c : ℕ) (next : List ℤ) (x : Verdict) → Puts out c → c < n → x ≡ f c → length (verdictCells x) ≡ verdictWidth
+      → next ≡ sets out (verdictWidth * c) (verdictCells x) → Puts next (c + 1)
+  puts-go-on out c next x e h x-is k q =
+      let is : getD (listed f n) c notBinding ≡ x = listed-at f notBinding n c h ∙ sym x-is in
+      let z : verdictWidth * c ≡ 0 + verdictWidth * c = omega arith in
+      blocks-go-on verdictCells verdictWidth (listed f n) before 0 notBinding out c next e (omega (arith, listed-length f n))
+      (ap (λ (v : Verdict). length (verdictCells v)) is ∙ k) (q ∙ ap₂ (λ (j : ℕ) (v : Verdict). sets out j (verdictCells v)) z (sym is))
+
+  pub puts-end : (out : List ℤ) (c : ℕ) → Puts out c → n ≤ c → out ≡ sets before 0 (verdictsCells (listed f n))
+  unfolding verdictsCells
+  puts-end out c e h = blocks-end verdictCells verdictWidth (listed f n) before 0 out c e (omega (arith, listed-length f n))

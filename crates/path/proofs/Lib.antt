@@ -2,3 +2,4 @@
 pub mod TallyLaws
 pub mod JudgeLaws
 pub mod JudgedLaws
+pub mod MarketLaws

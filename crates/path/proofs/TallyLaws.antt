@@ -1,18 +1,23 @@
 -- A pass over the resources that adds up demand, supply and what each portfolio can withhold.
 use mathlib.Core.Bool.{Bool, true, false, cond}
 use mathlib.Core.List.{List, []}
+use mathlib.Core.Logic.{⊎-elim}
 use mathlib.Core.Path.{_≡_, refl, sym, ap, _∙_}
-use Prim.Native.Nat.{ℕ, suc, _+_, _-_, _*_, _≤_, _<_, zero-le}
-use native.Mathlib.Nat.{le-trans, le-of-eq, mul-le-mul-right}
+use Prim.Native.Nat.{ℕ, zero, suc, _+_, _-_, _*_, _^_, _≤_, _<_, zero-le}
+use native.Mathlib.Nat.{le-refl, le-trans, le-of-eq, mul-le-mul-right}
+use native.Mathlib.Numerals.{add-one}
 use native.Mathlib.Omega.{arith}
 use borrow.Author.Tests.{eq-eqb, ne-eqb}
-use lib.Dec.{eqb}
+use lib.Dec.{T, eqb}
 use lib.IntN.{ℤ, pos, negsuc, natAbs}
-use lib.ListN.{getD, replicate, set}
+use lib.ListN.{length, getD, replicate, set, List·getD-eq-default}
+use lib.Signed.{leZ, mag, nonNeg}
+use mir.Syntax.{w64}
+use mir.Val.{Fits, toZ, ofZ}
 use Rattle.rules_number.specs.Order.{inRange, natOf}
 use Rattle.rules_number.specs.Over.{sumTo, listed}
-use Rattle.rules_number.proofs.Kit.{in-lo, in-hi, le-of}
-use Rattle.rules_number.proofs.OverLaws.{listed-at, listed-same}
+use Rattle.rules_number.proofs.Kit.{came, cast-fits, whole-pos, in-lo, in-hi, le-of}
+use Rattle.rules_number.proofs.OverLaws.{both, listed-at, listed-same, last-or-before}
 use Rattle.rules_path.specs.Paths.{Path, at, effectiveness, effect, demand, supply, share, withholdable}
 use Rattle.rules_path.specs.Verdicts.{pathOf}
 use Rattle.path.specs.Tallies.{tallyOf, Sound}
@@ -23,6 +28,18 @@ use Rattle.rules_number.proofs.ListedLaws.{listed-set}
 nat-range : (lo : ℕ) (hi x : ℤ) → inRange (pos lo) hi x ≡ true → natOf x ≤ natOf hi
 nat-range lo hi (pos n) e = omega (arith, le-of (in-hi (pos lo) hi (pos n) e))
 nat-range lo hi (negsuc n) e = zero-le
+
+-- what is in a range from 0 on is cast as it is
+module _ (hi x : ℤ) (small : mag x < 2 ^ 63) (e : inRange (pos 0) hi x ≡ true) where
+  not-below : leZ (pos 0) x ≡ true
+  unfolding inRange
+  not-below = both (leZ (pos 0) x) (leZ x hi) e .0
+
+  pub cast-fit : T (nonNeg (toZ w64 (ofZ w64 x))) × Fits w64 (natAbs (toZ w64 (ofZ w64 x)))
+  cast-fit = rw (came x small) (cast-fits x small not-below)
+
+  pub cast-is : natAbs (toZ w64 (ofZ w64 x)) ≡ natOf x
+  cast-is = rw (came x small) (whole-pos x not-below)
 
 effect-range : (k : ℕ) (hi x : ℤ) → inRange (negsuc k) hi x ≡ true → effectiveness x ≤ suc k
 effect-range k hi (pos n) e = zero-le
@@ -105,6 +122,16 @@ module _ (factors dispatch available floor : List ℤ) (portfolio : List ℕ) (c
         supply-is = next-supply;
         withholdable-is = w-is ∙ so-far .withholdable-is ∙ listed-same _ _ 16 (λ q m. more-other q (λ z. omega arith));
       }
+
+  -- resources without a factor add nothing
+  pub added-past : (k n x y : ℕ) (w : List ℕ) → k ≤ n → ((r : ℕ) → k ≤ r → r < n → length factors ≤ r * 32 + c) → Added k x y w → Added n x y w
+  added-past k zero x y w l h a = let e : k ≡ 0 = omega arith in rw e at a
+  added-past k (suc n) x y w l h a =
+      ⊎-elim (λ e. rw e at a)
+      (λ m.
+      rw add-one at (added-none n x y w (added-past k n x y w (omega arith) (λ r i j. h r i (omega arith)) a)
+      (ap effectiveness (List·getD-eq-default factors (pos 0) (h n (omega arith) (le-refl (suc n)))))))
+      (last-or-before k (suc n) (omega arith))
 
   -- the tally of no resource
   pub added-start : Added 0 0 0 (replicate 16 0)

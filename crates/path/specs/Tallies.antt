@@ -31,3 +31,9 @@ pub record Sound (factors dispatch available floor : List ℤ) (resources c : �
   pub available-in : (r : ℕ) → r < resources → inRange (pos 0) (pos 1000000) (getD available r (pos 0)) ≡ true
   pub floor-in : (r : ℕ) → r < resources → inRange (pos 0) (getD available r (pos 0)) (getD floor r (pos 0)) ≡ true
   pub dispatch-in : (r : ℕ) → r < resources → inRange (pos 0) (getD available r (pos 0)) (getD dispatch r (pos 0)) ≡ true
+
+-- the first r of n rows have a cell in column c of a slice of that length, and no later one has
+pub record Reaches (length n c r : ℕ) : Type 0 where
+  pub most : r ≤ n
+  pub inside : (k : ℕ) → k < r → k * 32 + c < length
+  pub outside : (k : ℕ) → r ≤ k → k < n → length ≤ k * 32 + c

@@ -9,7 +9,7 @@ ghost use lib.IntN.{pos, natAbs};
 ghost use mathlib.Core.List.{[]};
 ghost use Rattle.rules_path.specs.Paths.{effectiveness, top};
 ghost use Rattle.rules_path.specs.Verdicts.{pathOf, verdictOf};
-ghost use Rattle.path.specs.Tallies.{Sound, tallyOf, Held, topOf};
+ghost use Rattle.path.specs.Tallies.{Sound, Reaches, tallyOf, Held, topOf};
 
 // What a pass over the resources adds up: demand, supply and what each portfolio can withhold.
 pub(crate) struct Tally {
@@ -26,9 +26,19 @@ fn effectiveness(s: i64) -> u64
     if s < 0 { (-s) as u64 } else { 0 }
 }
 
-// The tally of a constraint. A resource whose factor isn't below 0 adds nothing, one of an unknown portfolio nothing that can be withheld.
+// How many of n resources have a factor on constraint c in a slice of that length.
+fn rows_in(length: usize, n: usize, c: usize) -> usize
+    ensures { λ r. ⌜ Reaches length n c r ⌝ }
+{
+    if length <= c {
+        return 0;
+    }
+    number::at_most((length - c - 1) / Interval::MAX_CONSTRAINTS + 1, n)
+}
+
+// The tally of a constraint. A resource whose factor isn't below 0, or is past the end, adds nothing, one of an unknown portfolio nothing that can be withheld.
 fn tally_of<'a>(
-    factors: &'a [i64; Interval::MAX_FACTORS],
+    factors: &'a [i64],
     dispatch: &'a [i64; Interval::MAX_RESOURCES],
     available: &'a [i64; Interval::MAX_RESOURCES],
     floor: &'a [i64; Interval::MAX_RESOURCES],
@@ -39,16 +49,18 @@ fn tally_of<'a>(
     requires { ⌜ Sound (now factors) (now dispatch) (now available) (now floor) resources c ⌝ }
     ensures { λ t. ⌜ t ≡ tallyOf (pathOf (pos 0) (now (factors .entry)) (now (dispatch .entry)) (now (available .entry)) (now (floor .entry)) (now (portfolio .entry)) [] resources c) ⌝ }
 {
+    let rows = rows_in(factors.len(), resources, c);
     let mut demand: u64 = 0;
     let mut supply: u64 = 0;
     let mut withholdable = [0u64; Market::MAX_PORTFOLIOS];
     let mut r: usize = 0;
-    while r < resources {
+    while r < rows {
         let e = effectiveness(factors[r * Interval::MAX_CONSTRAINTS + c]);
         if 0 < e {
-            let most = number::whole(available[r]);
-            let kept = number::whole(floor[r]);
-            demand += e * number::whole(dispatch[r]);
+            let most = available[r] as u64;
+            let kept = floor[r] as u64;
+            let wanted = dispatch[r] as u64;
+            demand += e * wanted;
             supply += e * most;
             let p = portfolio[r] as usize;
             if p < Market::MAX_PORTFOLIOS {
@@ -107,7 +119,7 @@ fn top_of(offers: [u64; Market::MAX_PORTFOLIOS]) -> Top
 // The verdict on constraint c, whose shadow price is given.
 pub(crate) fn judge<'a>(
     shadow: i64,
-    factors: &'a [i64; Interval::MAX_FACTORS],
+    factors: &'a [i64],
     dispatch: &'a [i64; Interval::MAX_RESOURCES],
     available: &'a [i64; Interval::MAX_RESOURCES],
     floor: &'a [i64; Interval::MAX_RESOURCES],

@@ -19,7 +19,7 @@ pub struct OpenedRow {
 }
 
 // Where a curve ends: at its last step's end, or at its start where it has no step.
-fn end_of(c: Curve) -> u64
+pub fn end_of(c: Curve) -> u64
     ensures { λ r. ⌜ r ≡ endOf (c .start) (stepsOf c) ⌝ }
 {
     let n = curve::used(c);
@@ -31,7 +31,7 @@ fn end_of(c: Curve) -> u64
 }
 
 // Whether a bid lies inside its default curve: else 11.
-fn lies_inside(bid: Curve, default: Curve) -> bool
+pub fn lies_inside(bid: Curve, default: Curve) -> bool
     ensures { λ r. ⌜ r ≡ liesInside bid default ⌝ }
 {
     if bid.start < default.start {

@@ -3,7 +3,9 @@ pub mod StandLaws
 pub mod BackAgain
 pub mod HourBack
 pub mod SameCells
+pub mod TakeLaws
 pub mod OpenedFits
+pub mod OpenedLaws
 pub mod CallStates
 pub mod StateCalls
 pub mod NumberCalls
@@ -12,5 +14,6 @@ pub mod ReadNumbers
 pub mod StateCells
 pub mod Worked
 pub mod WrittenSlices
+pub mod VerdictLaws
 pub mod WhyNumbers
 pub mod DefaultNumbers

@@ -4,23 +4,39 @@ use mathlib.Core.Path.{_≡_, ap, ap₂}
 use Prim.Native.Nat.{ℕ, _+_, _≤_, _<_}
 use native.Mathlib.Omega.{arith}
 use lib.IntN.{ℤ}
+use lib.ListN.{length}
 use Rattle.rules_number.specs.Order.{natOf}
 use Rattle.rules_number.specs.Over.{listed}
-use Rattle.rules_number.proofs.OverLaws.{listed-same}
+use Rattle.rules_number.proofs.OverLaws.{listed-length, listed-same}
 use Rattle.rules_curve.specs.Curves.{mostSteps, stepTo}
 use Rattle.rules_library.specs.Slices.{cellAt}
 use Rattle.rules_state.specs.Layout.{mostResources, mostPortfolios, quarterFrom, marketFrom, curveRoom}
-use Rattle.rules_state.specs.States.{floorOf, floorsIn, standingIn, wholesIn, marketIn, curveInCells, rowFrom, rowIn, rowsIn}
+use Rattle.rules_state.specs.States.{floorOf, floorsIn, standingIn, quarterIn, wholesIn, marketIn, curveInCells, rowFrom, rowIn, rowsIn}
+
+-- floor prices, from their marks and prices
+pub floors-full : (l : List ℤ) (from : ℕ) → length (floorsIn l from) ≡ mostResources
+unfolding floorsIn
+floors-full l from = listed-length _ mostResources
+
+pub floors-same : (l k : List ℤ) (from : ℕ) → ((i : ℕ) → from ≤ i → i < from + mostResources + mostResources → cellAt l i ≡ cellAt k i) → floorsIn l from ≡ floorsIn k from
+unfolding floorsIn
+floors-same l k from e =
+    listed-same (λ r. floorOf (cellAt l (from + r)) (cellAt l (from + mostResources + r))) (λ r. floorOf (cellAt k (from + r)) (cellAt k (from + mostResources + r))) mostResources
+    (λ r h. ap₂ floorOf (e (from + r) (omega arith) (omega arith)) (e (from + mostResources + r) (omega arith) (omega arith)))
 
 -- the standing, from the cells before the quarter hour
 pub standing-same : (l k : List ℤ) → ((i : ℕ) → i < quarterFrom → cellAt l i ≡ cellAt k i) → standingIn l ≡ standingIn k
-unfolding standingIn floorsIn
+unfolding standingIn
 standing-same l k e =
     let a : natOf (cellAt l 0) ≡ natOf (cellAt k 0) = ap natOf (e 0 (omega arith)) in
-    let b : floorsIn l 1 ≡ floorsIn k 1 =
-    listed-same (λ r. floorOf (cellAt l (1 + r)) (cellAt l (1 + mostResources + r))) (λ r. floorOf (cellAt k (1 + r)) (cellAt k (1 + mostResources + r))) mostResources
-    (λ r h. ap₂ floorOf (e (1 + r) (omega arith)) (e (1 + mostResources + r) (omega arith))) in
-    rw (a, b)
+    rw (a, floors-same l k 1 (λ i h m. e i (omega arith)))
+
+-- the quarter hour, from its own
+pub quarter-same : (l k : List ℤ) → ((i : ℕ) → quarterFrom ≤ i → i < marketFrom → cellAt l i ≡ cellAt k i) → quarterIn l ≡ quarterIn k
+unfolding quarterIn
+quarter-same l k e =
+    let a : natOf (cellAt l quarterFrom) ≡ natOf (cellAt k quarterFrom) = ap natOf (e quarterFrom (omega arith) (omega arith)) in
+    rw (a, floors-same l k (quarterFrom + 1) (λ i h m. e i (omega arith) (omega arith)))
 
 -- market and rows, from the cells past the quarter hour
 module _ (l k : List ℤ) (e : (i : ℕ) → marketFrom ≤ i → cellAt l i ≡ cellAt k i) where

@@ -1,7 +1,7 @@
 -- The calls on a state: opening, an interval, a pass. Each makes of the hour that the state stands for what the engine's rules make of it; where the answer isn't 0 the
 -- state is as it was, to the cell. Assumes nothing.
 use mathlib.Core.Bool.{true, false, _&&_}
-use mathlib.Core.List.{List, _++_}
+use mathlib.Core.List.{List}
 use mathlib.Core.Logic.{_⊎_, ⊎-elim}
 use mathlib.Core.Path.{_≡_, refl, sym, ap, _∙_}
 use Prim.Native.Nat.{ℕ, zero, suc, _+_, _≤_, _<_}
@@ -11,21 +11,25 @@ use lib.IntN.{ℤ, pos, negsuc}
 use lib.ListN.{length}
 use lib.Seq.{sets, length-sets}
 use Rattle.rules_text.proofs.ListLaws.{and-false, sets-before}
+use Rattle.rules_mitigation.specs.declared.FloorPrice.the-variants.{Uncut}
 use Rattle.rules_interval.specs.declared.Interval.{Interval}
 use Rattle.rules_opening.specs.Openings.{openingRefusal}
 use Rattle.rules_opening.specs.declared.Opening.{Opening}
-use Rattle.rules_hour.specs.Hours.{callRefusal, standingAfter, hourRefusal, hourAfter}
-use Rattle.rules_pass.specs.Passes.{freshQuarter, turnRefusal, quarterAfter, openedRealTime, intervalAfter, passRefusal, passAfter}
+use Rattle.rules_hour.specs.Cuts.{cutOf}
+use Rattle.rules_hour.specs.Hours.{callRefusal, hourRefusal, hourAfter}
+use Rattle.rules_pass.specs.Passes.{freshQuarter, turnRefusal, openedRealTime, intervalAfter, passRefusal, passAfter}
 use Rattle.rules_pass.proofs.PassLaws.{refused-interval, refused-pass}
 use Rattle.rules_library.specs.Slices.{cellAt, ifWritten}
-use Rattle.rules_state.specs.Layout.{countedRoom, quarterFrom, marketFrom, stateRoom, verdictRoom}
-use Rattle.rules_state.specs.States.{standingIn, quarterIn, marketIn, hourIn, standingCells, quarterCells, stateCells}
+use Rattle.rules_state.specs.Layout.{mostResources, quarterFrom, marketFrom, stateRoom, verdictRoom}
+use Rattle.rules_state.specs.States.{standingIn, quarterIn, marketIn, hourIn, quarterCells, stateCells}
+use Rattle.rules_state.specs.Takes.{standingWritten}
 use Rattle.rules_state.specs.Calls.{holds, openAnswer, stateOpened, intervalAnswer, intervalWritten, passWritten, stateAfterInterval, passAnswer, stateAfterPass}
 use Rattle.rules_state.proofs.StandLaws.{stored-past}
-use Rattle.rules_state.proofs.BackAgain.{standing-room, quarter-room}
-use Rattle.rules_state.proofs.HourBack.{two, state-room, stored-back}
+use Rattle.rules_state.proofs.BackAgain.{quarter-room}
+use Rattle.rules_state.proofs.HourBack.{state-room, stored-back}
 use Rattle.rules_state.proofs.OpenedFits.{opened-fits}
-use Rattle.rules_state.proofs.CallStates.{answered, answer-zero, unwritten, either-way, next-fits, turn-fits, fresh-fits, counted-stored, quarter-stored}
+use Rattle.rules_state.proofs.TakeLaws.{standing-length, standing-past, standing-kept, standing-after, standing-market, standing-rows, quarter-length, quarter-outside, quarter-kept, quarter-after, quarter-standing, quarter-market, quarter-rows}
+use Rattle.rules_state.proofs.CallStates.{answered, answer-zero, unwritten, either-way, fresh-fits, quarter-stored}
 
 -- both slices are long enough
 room : {A B : Type 0} (n m : ℕ) (k : List A) (l : List B) → n ≤ length k → m ≤ length l → (holds n k && holds m l) ≡ true
@@ -129,7 +133,8 @@ module _ (s verdicts : List ℤ) (v : Interval) where
     where
       go : (n : ℕ) → callRefusal (marketIn s) (standingIn s) v ≡ n → hourIn (stateAfterInterval s verdicts v) ≡ intervalAfter (hourIn s) v
       go zero e =
-          rw (interval-answer h k, e) (counted-stored s h (standingAfter (marketIn s) (standingIn s) v) freshQuarter (next-fits (marketIn s) v s e) fresh-fits)
+          rw (interval-answer h k, e) (quarter-stored (standingWritten s v) (omega (arith, standing-length s v e)) freshQuarter fresh-fits
+          ∙ rw (standing-market s v e, standing-rows s v e, standing-after s v e (omega arith)))
       go (suc n) e = ap hourIn (interval-refused (λ z. not-suc n (sym (interval-answer h k ∙ ap pos e) ∙ z))) ∙ sym (refused-interval (hourIn s) v n e)
 
   pub state-pass : stateRoom ≤ length s → verdictRoom ≤ length verdicts → hourIn (stateAfterPass s verdicts v) ≡ passAfter (hourIn s) v
@@ -138,34 +143,39 @@ module _ (s verdicts : List ℤ) (v : Interval) where
     where
       go : (n : ℕ) → turnRefusal (marketIn s) (standingIn s .accepted) (quarterIn s) v ≡ n → hourIn (stateAfterPass s verdicts v) ≡ passAfter (hourIn s) v
       go zero e =
-          rw (pass-answer h k, e) (quarter-stored s h (quarterAfter (marketIn s) (standingIn s .accepted) (quarterIn s) v) (turn-fits (marketIn s) v s (standingIn s .accepted) e))
+          rw (pass-answer h k, e) (rw (quarter-market s v e, quarter-rows s v e, quarter-standing s v e, quarter-after s v e (omega arith)))
       go (suc n) e = ap hourIn (pass-refused (λ z. not-suc n (sym (pass-answer h k ∙ ap pos e) ∙ z))) ∙ sym (refused-pass (hourIn s) v n e)
 
   -- an interval touches standing and quarter hour alone, a pass the quarter hour alone
   pub interval-touches : (k : ℕ) → marketFrom ≤ k → cellAt (stateAfterInterval s verdicts v) k ≡ cellAt s k
   unfolding stateAfterInterval
   interval-touches k h =
-      let a = standingAfter (marketIn s) (standingIn s) v in
-      let cells = standingCells a ++ quarterCells freshQuarter in
       either-way (λ l. cellAt l k ≡ cellAt s k) (intervalAnswer s verdicts v) (intervalWritten s v) s refl
-      (λ e. stored-past (pos 0) s 0 cells k (omega (
-        arith,
-        two (standingCells a) (quarterCells freshQuarter) countedRoom countedRoom marketFrom
-            (standing-room a (next-fits (marketIn s) v s (interval-zero e))) (quarter-room freshQuarter fresh-fits) refl,
-      )))
+      (λ e. stored-past (pos 0) (standingWritten s v) quarterFrom (quarterCells freshQuarter) k (omega (arith, quarter-room freshQuarter fresh-fits))
+      ∙ standing-past s v (interval-zero e) k (omega arith))
 
   pub pass-touches : (k : ℕ) → (k < quarterFrom) ⊎ (marketFrom ≤ k) → cellAt (stateAfterPass s verdicts v) k ≡ cellAt s k
   unfolding stateAfterPass
   pass-touches k h =
-      let b = quarterAfter (marketIn s) (standingIn s .accepted) (quarterIn s) v in
-      either-way (λ l. cellAt l k ≡ cellAt s k) (passAnswer s verdicts v) (passWritten s v) s refl
-      (λ e. ⊎-elim (sets-before (pos 0) s quarterFrom (quarterCells b) k)
-      (λ l. stored-past (pos 0) s quarterFrom (quarterCells b) k (omega (arith, quarter-room b (turn-fits (marketIn s) v s (standingIn s .accepted) (pass-zero e))))) h)
+      either-way (λ l. cellAt l k ≡ cellAt s k) (passAnswer s verdicts v) (passWritten s v) s refl (λ e. quarter-outside s v (pass-zero e) k h)
+
+  -- of the standing an interval touches the count, and mark and price of each resource that it cuts; a pass the same of the quarter hour
+  pub interval-keeps : (r : ℕ) → r < mostResources → cutOf (marketIn s) v r ≡ Uncut → (k : ℕ) → (k ≡ 1 + r) ⊎ (k ≡ 65 + r) → cellAt (stateAfterInterval s verdicts v) k ≡ cellAt s k
+  unfolding stateAfterInterval
+  interval-keeps r m u k o =
+      either-way (λ l. cellAt l k ≡ cellAt s k) (intervalAnswer s verdicts v) (intervalWritten s v) s refl
+      (λ e. sets-before (pos 0) (standingWritten s v) quarterFrom (quarterCells freshQuarter) k (⊎-elim (λ y. omega arith) (λ y. omega arith) o) ∙ standing-kept s v (interval-zero e) r m u k o)
+
+  pub pass-keeps : (r : ℕ) → r < mostResources → cutOf (marketIn s) v r ≡ Uncut → (k : ℕ) → (k ≡ 130 + r) ⊎ (k ≡ 194 + r) → cellAt (stateAfterPass s verdicts v) k ≡ cellAt s k
+  unfolding stateAfterPass
+  pass-keeps r m u k o = either-way (λ l. cellAt l k ≡ cellAt s k) (passAnswer s verdicts v) (passWritten s v) s refl (λ e. quarter-kept s v (pass-zero e) r m u k o)
 
   pub interval-length : length (stateAfterInterval s verdicts v) ≡ length s
   unfolding stateAfterInterval
-  interval-length = written-length (intervalAnswer s verdicts v) s 0 (standingCells (standingAfter (marketIn s) (standingIn s) v) ++ quarterCells freshQuarter)
+  interval-length =
+      either-way (λ l. length l ≡ length s) (intervalAnswer s verdicts v) (intervalWritten s v) s refl
+      (λ e. length-sets (standingWritten s v) quarterFrom (quarterCells freshQuarter) ∙ standing-length s v (interval-zero e))
 
   pub pass-length : length (stateAfterPass s verdicts v) ≡ length s
   unfolding stateAfterPass
-  pass-length = written-length (passAnswer s verdicts v) s quarterFrom (quarterCells (quarterAfter (marketIn s) (standingIn s .accepted) (quarterIn s) v))
+  pass-length = either-way (λ l. length l ≡ length s) (passAnswer s verdicts v) (passWritten s v) s refl (λ e. quarter-length s v (pass-zero e))

@@ -1,6 +1,6 @@
 -- What stands in the slices that calls write: the curves, the verdicts. Assumes nothing.
 use mathlib.Core.Bool.{true, false, _&&_}
-use mathlib.Core.List.{List, _∷_, map}
+use mathlib.Core.List.{List, _∷_, map, flatMap}
 use mathlib.Core.Logic.{_⊎_, inl, inr, ⊎-elim}
 use mathlib.Core.Path.{_≡_, refl, sym, ap, subst, _∙_}
 use Prim.Native.Nat.{ℕ, _+_, _*_, _≤_, _<_}
@@ -46,7 +46,7 @@ use Rattle.rules_library.specs.Slices.{cellAt, edgesOf, pricesOf, edgeCount, pr
 use Rattle.rules_state.specs.Layout.{mostResources, mostConstraints, stateRoom, verdictWidth, verdictRoom, causeRoom}
 use Rattle.rules_state.specs.States.{curveInCells, rowIn, rowsIn, hourIn, marketIn, standingIn, quarterIn, cellOf}
 use Rattle.rules_state.specs.Fits.{Each}
-use Rattle.rules_state.specs.Verdicts.{verdictCells, verdictsCells}
+use Rattle.rules_state.specs.Verdicts.{verdictCells, verdictsCells, judgedCells}
 use Rattle.rules_state.specs.Calls.{holds, intervalAnswer, passAnswer, verdictsAfterInterval, verdictsAfterPass, whyAnswer, causesAfter}
 use Rattle.rules_state.specs.Causes.{causesCells}
 use Rattle.rules_state.specs.Curves.{mitigatedEdges, mitigatedPrices, mitigatedEdgeCount, mitigatedRoom, curveAnswer, curveEdges, curvePrices, fiveMinuteEdges, fiveMinutePrices, hourBidAnswer, hourBidEdges, hourBidPrices, defaultIn, defaultOfAnswer, defaultOfEdges, defaultOfPrices}
@@ -210,13 +210,16 @@ module _ (s : List ℤ) (edges : List ℕ) (prices : List ℤ) where
       )
 
 -- ---- verdicts: twenty numbers of each of 32 constraints
-verdict-width : (v : Verdict) → length (v .withheld) ≡ 16 → length (verdictCells v) ≡ verdictWidth
+pub verdict-width : (v : Verdict) → length (v .withheld) ≡ 16 → length (verdictCells v) ≡ verdictWidth
 unfolding verdictCells
 verdict-width v e = omega (arith, length-map (v .withheld) cellOf)
 
-withheld-room : (d : Path) → length (verdictOf d .withheld) ≡ 16
+pub withheld-room : (d : Path) → length (verdictOf d .withheld) ≡ 16
 unfolding verdictOf
 withheld-room d = ⊎-elim (λ e. rw e (listed-length (λ p. amountOf p (sellers d)) 16)) (λ e. rw e) (tested (binds d))
+
+pub verdict-room : (d : Path) → length (verdictCells (verdictOf d)) ≡ verdictWidth
+verdict-room d = verdict-width (verdictOf d) (withheld-room d)
 
 module _ (m : Market) (v : Interval) (n : ℕ) (sound : intervalRefusal n v ≡ 0) where
   verdicts-many : length (verdictsOf m v) ≡ mostConstraints
@@ -229,7 +232,7 @@ module _ (m : Market) (v : Interval) (n : ℕ) (sound : intervalRefusal n v ≡ 
   unfolding verdictsOf
   verdicts-each =
       each-padded (λ x. length (verdictCells x) ≡ verdictWidth) mostConstraints notBinding (listed (λ c. verdictOf (pathIn m v c)) (v .constraints)) (verdict-width notBinding refl)
-      (each-listed (λ x. length (verdictCells x) ≡ verdictWidth) (λ c. verdictOf (pathIn m v c)) (v .constraints) (λ c l. verdict-width (verdictOf (pathIn m v c)) (withheld-room (pathIn m v c))))
+      (each-listed (λ x. length (verdictCells x) ≡ verdictWidth) (λ c. verdictOf (pathIn m v c)) (v .constraints) (λ c l. verdict-room (pathIn m v c)))
 
   verdicts-room : length (verdictsCells (verdictsOf m v)) ≡ verdictRoom
   unfolding verdictsCells
@@ -251,12 +254,29 @@ module _ (m : Market) (v : Interval) (n : ℕ) (sound : intervalRefusal n v ≡ 
   verdicts-written : (before : List ℤ) → verdictRoom ≤ length before → Written (pos 0) 640 (verdictsCells (verdictsOf m v)) before (sets before 0 (verdictsCells (verdictsOf m v)))
   verdicts-written before h = written (pos 0) 640 (verdictsCells (verdictsOf m v)) before verdicts-room h
 
+-- the finding on constraint c of an interval, where its verdicts are written as far as it has constraints
+pub judged-finding : (m : Market) (v : Interval) (l : List ℤ) → v .constraints ≤ mostConstraints → verdictRoom ≤ length l
+    → (c : ℕ) → c < v .constraints → cellAt (sets l 0 (judgedCells m v)) (verdictWidth * c) ≡ pos (findingNumber (verdictOf (pathIn m v c) .finding))
+unfolding judgedCells verdictsCells verdictCells
+judged-finding m v l few room c h =
+    let of : ℕ → Verdict = λ c. verdictOf (pathIn m v c) in
+    let verdicts = listed of (v .constraints) in
+    let all = flatMap verdictCells verdicts in
+    let each = each-listed (λ x. length (verdictCells x) ≡ verdictWidth) of (v .constraints) (λ c l. verdict-room (pathIn m v c)) in
+    let n : length all ≡ verdictWidth * v .constraints = flat-length verdictCells verdictWidth verdicts each ∙ ap (λ (k : ℕ). verdictWidth * k) (listed-length of (v .constraints)) in
+    let t = stands-each verdictCells verdictWidth notBinding (sets l 0 all) verdicts 0 each (stands-stored l 0 all (omega arith)) c (omega (arith, listed-length of (v .constraints))) in
+    let z : 0 + verdictWidth * c ≡ verdictWidth * c = omega arith in
+    let x = getD verdicts c notBinding in
+    ap (λ (i : ℕ). cellAt (sets l 0 all) i) (sym z)
+    ∙ stands-first (sets l 0 all) (0 + verdictWidth * c) (pos (findingNumber (x .finding))) (cellOf (x .demand) ∷ cellOf (x .left) ∷ cellOf (x .named) ∷ map cellOf (x .withheld)) t
+    ∙ ap (λ (y : Verdict). pos (findingNumber (y .finding))) (listed-at of notBinding (v .constraints) c h)
+
 -- none of 13 to 16 applies to an accepted interval or pass
-sound-call : (m : Market) (k : Standing) (v : Interval) → callRefusal m k v ≡ 0 → intervalRefusal (m .resources) v ≡ 0
+pub sound-call : (m : Market) (k : Standing) (v : Interval) → callRefusal m k v ≡ 0 → intervalRefusal (m .resources) v ≡ 0
 unfolding callRefusal
 sound-call m k v e = then-both (unless (ltb (k .accepted) 4) 12) (intervalRefusal (m .resources) v) e .1
 
-sound-turn : (m : Market) (a : ℕ) (k : Quarter) (v : Interval) → turnRefusal m a k v ≡ 0 → intervalRefusal (m .resources) v ≡ 0
+pub sound-turn : (m : Market) (a : ℕ) (k : Quarter) (v : Interval) → turnRefusal m a k v ≡ 0 → intervalRefusal (m .resources) v ≡ 0
 unfolding turnRefusal
 sound-turn m a k v e = then-both (unless (ltb 0 a && ltb (k .passes) 3) 19) (intervalRefusal (m .resources) v) e .1
 
@@ -272,7 +292,7 @@ own : (n k : ℕ) → n ≤ k → k ≤ 9223372036854775807 → cellOf n ≡ pos
 own n k h l = ap pos (same-quantity n (omega arith))
 
 -- three sellers of 16 are named
-named-few : (m : Market) (v : Interval) (c : ℕ) → verdictOf (pathIn m v c) .named ≤ 98304
+pub named-few : (m : Market) (v : Interval) (c : ℕ) → verdictOf (pathIn m v c) .named ≤ 98304
 unfolding verdictOf named sellers
 named-few m v c = ⊎-elim (λ e. rw e (mask-bound 3 (offers (pathIn m v c)))) (λ e. rw e (omega arith)) (tested (binds (pathIn m v c)))
 

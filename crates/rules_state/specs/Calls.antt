@@ -1,6 +1,6 @@
 -- The calls on a state: what each answers, and the lent slices afterwards.
 use mathlib.Core.Bool.{Bool, _&&_}
-use mathlib.Core.List.{List, _++_}
+use mathlib.Core.List.{List}
 use Prim.Native.Nat.{ℕ}
 use lib.Dec.{leb}
 use lib.IntN.{ℤ}
@@ -10,11 +10,12 @@ use Rattle.rules_interval.specs.Intervals.{intervalRefusal}
 use Rattle.rules_interval.specs.declared.Interval.{Interval}
 use Rattle.rules_opening.specs.Openings.{openingRefusal}
 use Rattle.rules_opening.specs.declared.Opening.{Opening}
-use Rattle.rules_hour.specs.Hours.{standingAfter, callRefusal, callVerdicts}
-use Rattle.rules_pass.specs.Passes.{freshQuarter, turnRefusal, quarterAfter, turnVerdicts, openedRealTime}
+use Rattle.rules_hour.specs.Hours.{callRefusal, callVerdicts}
+use Rattle.rules_pass.specs.Passes.{freshQuarter, turnRefusal, turnVerdicts, openedRealTime}
 use Rattle.rules_library.specs.Slices.{answerOf, ifWritten}
 use Rattle.rules_state.specs.Layout.{quarterFrom, stateRoom, verdictRoom, causeRoom}
-use Rattle.rules_state.specs.States.{standingIn, quarterIn, marketIn, standingCells, quarterCells, stateCells}
+use Rattle.rules_state.specs.States.{standingIn, quarterIn, marketIn, quarterCells, stateCells}
+use Rattle.rules_state.specs.Takes.{standingWritten, quarterWritten}
 use Rattle.rules_state.specs.Verdicts.{verdictsCells}
 use Rattle.rules_state.specs.Causes.{causesCells}
 
@@ -31,12 +32,12 @@ openAnswer state o = answerOf (holds stateRoom state) (openingRefusal o)
 unfoldable pub stateOpened : List ℤ → Opening → List ℤ
 stateOpened state o = ifWritten (openAnswer state o) (sets state 0 (stateCells (openedRealTime o))) state
 
--- ---- an interval: standing and quarter hour are written anew, market and rows are not touched
+-- ---- an interval: its cuts and the count, and a new quarter hour; market and rows are not touched
 unfoldable pub intervalAnswer : List ℤ → List ℤ → Interval → ℤ
 intervalAnswer state verdicts v = answerOf (holds stateRoom state && holds verdictRoom verdicts) (callRefusal (marketIn state) (standingIn state) v)
 
 abbrev pub intervalWritten : List ℤ → Interval → List ℤ
-intervalWritten state v = sets state 0 (standingCells (standingAfter (marketIn state) (standingIn state) v) ++ quarterCells freshQuarter)
+intervalWritten state v = sets (standingWritten state v) quarterFrom (quarterCells freshQuarter)
 
 unfoldable pub stateAfterInterval : List ℤ → List ℤ → Interval → List ℤ
 stateAfterInterval state verdicts v = ifWritten (intervalAnswer state verdicts v) (intervalWritten state v) state
@@ -45,13 +46,13 @@ unfoldable pub verdictsAfterInterval : List ℤ → List ℤ → Interval → Li
 verdictsAfterInterval state verdicts v =
     ifWritten (intervalAnswer state verdicts v) (sets verdicts 0 (verdictsCells (callVerdicts (marketIn state) (standingIn state) v))) verdicts
 
--- ---- a pass: the quarter hour alone is written anew
+-- ---- a pass: its cuts and the count of the quarter hour alone
 unfoldable pub passAnswer : List ℤ → List ℤ → Interval → ℤ
 passAnswer state verdicts v =
     answerOf (holds stateRoom state && holds verdictRoom verdicts) (turnRefusal (marketIn state) (standingIn state .accepted) (quarterIn state) v)
 
 abbrev pub passWritten : List ℤ → Interval → List ℤ
-passWritten state v = sets state quarterFrom (quarterCells (quarterAfter (marketIn state) (standingIn state .accepted) (quarterIn state) v))
+passWritten state v = quarterWritten state v
 
 unfoldable pub stateAfterPass : List ℤ → List ℤ → Interval → List ℤ
 stateAfterPass state verdicts v = ifWritten (passAnswer state verdicts v) (passWritten state v) state

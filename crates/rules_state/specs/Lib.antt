@@ -6,6 +6,8 @@ pub mod Openings
 pub mod Intervals
 pub mod Verdicts
 pub mod Causes
+pub mod Takes
+pub mod OpenedInto
 pub mod Calls
 pub mod Curves
 pub mod Lists

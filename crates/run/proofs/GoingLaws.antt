@@ -4,20 +4,25 @@ use mathlib.Core.Path.{_≡_, refl, sym, ap, subst, _∙_}
 use mathlib.Core.List.{List, [], append-nil}
 use native.Mathlib.Omega.{arith}
 use lib.ListN.{length, drop, length-drop, drop-of-length-le}
+use lib.IntN.{ℤ}
 use lib.Seq.{sets}
 use Rattle.rules_interval.specs.declared.Interval.{Interval}
-use Rattle.rules_hour.specs.Hours.{Hour, hourRefusal, hourAfter}
+use Rattle.rules_hour.specs.Hours.{Hour, callRefusal, hourRefusal, hourAfter}
 use Rattle.rules_text.specs.Numbers.{Line, lines}
 use Rattle.rules_text.specs.Tables.{Reading, faulty, found}
 use Rattle.rules_text.specs.Printing.{refusalText}
 use Rattle.rules_text.proofs.LineLaws.{lines-some}
 use Rattle.rules_parts.specs.Parts.{readInterval}
-use Rattle.read_interval.specs.Shown.{reading}
+use Rattle.rules_state.specs.States.{hourIn, standingIn, marketIn}
+use Rattle.rules_state.specs.Takes.{standingWritten}
+use Rattle.rules_state.specs.Verdicts.{judgedCells}
 use Rattle.page.proofs.PageLaws.{Putting, putting-start, putting-next, putting-done}
 use Rattle.rules_run.specs.Run.{pageOf, intervals, hourText, Ended, endedBy, intervalsEnd, hourEnd}
 use Rattle.rules_run.proofs.CountLaws.{Uses, interval-using}
 use Rattle.rules_run.proofs.RunLaws.{faulty-text, refused-text, accepted-text, none-text, accepts-few, accepts-counts}
 use Rattle.rules_run.proofs.EndLaws.{faulty-end, refused-end, accepted-end, none-end}
+use Rattle.run.specs.Took.{Took, faulted, declined, taken}
+use Rattle.run.proofs.CellLaws.{call-few}
 
 pub positive : (n : ℕ) → (n ≡ 0 → ⊥) → 0 < n
 positive zero h = absurd (h refl)
@@ -26,16 +31,6 @@ positive (suc n) h = omega arith
 -- a text that was put, the room that it took, and how it ends
 pub within : {A B C D : Type 0} → A × B → C → D → A × ((B × C) × D)
 within e h d = (e .0, ((e .1, h), d))
-
--- ---- what a part's answer says of the lines
-module _ {A : Type 0} (s : List ℕ) (a : A) (line next : ℕ) where
-  pub read-faulty : (fault : ℕ) (r : Reading A) → 0 < fault → reading s fault a line next ≡ r → r ≡ faulty fault
-  read-faulty zero r l e = absurd (omega (arith, l))
-  read-faulty (suc k) r l e = sym e
-
-  pub read-found : (fault : ℕ) (r : Reading A) → fault ≡ 0 → reading s fault a line next ≡ r → r ≡ found a line (lines (drop next s))
-  read-found zero r l e = sym e
-  read-found (suc k) r l e = absurd (omega (arith, l))
 
 -- a line is left before the text's end
 pub some-line : (s : List ℕ) (at : ℕ) → at < length s → 0 < length (lines (drop at s))
@@ -125,10 +120,6 @@ module _ {s out whole : List ℕ} {end : Ended} {now : List ℕ} {hour : Hour} {
   pub refused-room : {r : ℕ} → r ≤ p + 64 → r ≤ 655424
   refused-room h = omega (arith, h, w .few, w .high)
 
-  -- a faulty line's number
-  pub faulty-few : (k : ℕ) → readInterval line (lines (drop at s)) ≡ faulty k → k ≤ 65537
-  faulty-few k e = omega (arith, w .left, subst (Uses line (lines (drop at s))) e (interval-using line (lines (drop at s))))
-
   -- an accepted interval's page is put, and the next is read
   pub going-next : at < length s → (v : Interval) (m next : ℕ) → readInterval line (lines (drop at s)) ≡ found v m (lines (drop next s)) → hourRefusal hour v ≡ 0
       → (after : Hour) (put : List ℕ) (q : ℕ) → after ≡ hourAfter hour v → put ≡ sets now p (pageOf i hour v) → q ≡ p + length (pageOf i hour v) → q ≤ p + 163840
@@ -150,3 +141,38 @@ module _ {s out whole : List ℕ} {end : Ended} {now : List ℕ} {hour : Hour} {
     count = omega (arith, ap (λ (h : Hour). h .standing .accepted) a, accepts-counts hour v g, w .count);
     left = left-after l v m (lines (drop next s)) e;
   }
+
+-- ---- a part that ends the run: a faulty line, or a refusal
+module _ {s out whole : List ℕ} {end : Ended} {now : List ℕ} {state : List ℤ} {at line i p : ℕ} (w : Going s out whole end now (hourIn state .hour) at line i p) (l : at < length s)
+    {after verdicts left : List ℤ} {number last next constraints : ℕ} where
+  pub stopped : Took s at line state after verdicts left number last next constraints → 0 < number → (put : List ℕ) (r : ℕ) → put ≡ sets now p (refusalText number last)
+      → r ≡ p + length (refusalText number last) → (put ≡ sets out 0 whole) × (r ≡ length whole)
+  stopped (faulted e h) some put r f g =
+      going-faulty w l last put r e (f ∙ ap (λ (n : ℕ). sets now p (refusalText n last)) h) (g ∙ ap (λ (n : ℕ). p + length (refusalText n last)) h)
+  stopped (declined v rest e g h) some put r f k = going-refused w l v last rest e number put r g h f k
+  stopped (taken v e h g c a b) some put r f k = absurd (omega (arith, some, h))
+
+  pub stopped-ends : Took s at line state after verdicts left number last next constraints → 0 < number → endedBy number last ≡ end
+  stopped-ends (faulted e h) some = ap (λ (n : ℕ). endedBy n last) h ∙ faulty-ends w l last e
+  stopped-ends (declined v rest e g h) some = refused-ends w l v last rest e number g h
+  stopped-ends (taken v e h g c a b) some = absurd (omega (arith, some, h))
+
+  pub stopped-few : Took s at line state after verdicts left number last next constraints → 0 < number → (number ≤ 99) × (last ≤ 200000)
+  stopped-few (faulted e h) some = (omega (arith, h), omega (arith, w .left, subst (Uses line (lines (drop at s))) e (interval-using line (lines (drop at s)))))
+  stopped-few (declined v rest e g h) some = (omega (arith, g, call-few (marketIn state) (standingIn state) v), omega (arith, left-after w l v last rest e))
+  stopped-few (taken v e h g c a b) some = absurd (omega (arith, some, h))
+
+-- ---- an accepted interval
+pub record Accepted (s : List ℕ) (at line : ℕ) (state after verdicts left : List ℤ) (last next constraints : ℕ) : Type 0 where
+  pub interval : Interval
+  pub read : readInterval line (lines (drop at s)) ≡ found interval last (lines (drop next s))
+  pub none : callRefusal (marketIn state) (standingIn state) interval ≡ 0
+  pub many : constraints ≡ interval .constraints
+  pub written : after ≡ standingWritten state interval
+  pub judged : left ≡ sets verdicts 0 (judgedCells (marketIn state) interval)
+
+pub accepting : {s : List ℕ} {at line : ℕ} {state after verdicts left : List ℤ} {number last next constraints : ℕ} → Took s at line state after verdicts left number last next constraints → number ≡ 0
+    → Accepted s at line state after verdicts left last next constraints
+accepting (faulted e h) z = absurd (omega (arith, z, h))
+accepting (declined v rest e g h) z = absurd (omega (arith, z, h))
+accepting (taken v e h g c a b) z = record { interval = v; read = e; none = g; many = c; written = a; judged = b }

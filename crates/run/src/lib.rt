@@ -1,23 +1,29 @@
 // The whole run: a text in, what is printed out (paper 01, Text). The contracts cite the definitions of rules_run.
-use engine::Hour;
-use read_interval::interval_at;
-use read_opening::opening_at;
-use rules_curve::Outcome;
-use rules_hour::Floor;
+use opening_part::PartOpened;
 use rules_interval::Interval;
-use rules_opening::Row;
-use rules_path::Verdict;
+use rules_mitigation::Mitigated;
 use rules_run::Ran;
 use rules_text::Printed;
 ghost use mathlib.Core.Path.{_≡_};
-ghost use Prim.Native.Nat.{_+_, _≤_, _<_};
-ghost use lib.ListN.{length, drop};
+ghost use mathlib.Core.Bool.{true};
+ghost use mathlib.Core.List.{map};
+ghost use Prim.Native.Nat.{_+_, _-_, _*_, _≤_, _<_};
+ghost use lib.ListN.{length, drop, replicate, set, getD};
+ghost use lib.IntN.{pos};
 ghost use lib.Seq.{sets};
 ghost use Rattle.rules_text.specs.Numbers.{lines};
-ghost use Rattle.rules_text.specs.Printing.{refusalText};
-ghost use Rattle.rules_page.specs.Pages.{verdictText, curveText};
-ghost use Rattle.engine.specs.Hours.{asHour};
+ghost use Rattle.rules_text.specs.Printing.{refusalText, groupText};
+ghost use Rattle.rules_mitigation.specs.Mitigation.{mostMitigatedSteps};
+ghost use Rattle.rules_hour.specs.Hours.{uncut};
+ghost use Rattle.rules_page.specs.Pages.{verdictText, curveText, curveTable, curveRows, curveBytes, curvesBytes, printable, Put};
+ghost use Rattle.rules_library.specs.Slices.{cellAt};
+ghost use Rattle.line_copies.specs.Lines.{widthOf, linesAgain};
+ghost use Rattle.rules_state.specs.Layout.{mostResources, rowsFrom, rowRoom, verdictRoom};
+ghost use Rattle.rules_state.specs.States.{hourIn, standingIn, marketIn, rowsIn};
+ghost use Rattle.rules_state.specs.Verdicts.{verdictsIn};
 ghost use Rattle.rules_run.specs.Run.{hourText, partsText, output, endedBy, hourEnd, partsEnd, endOf, runRoom, ranWithin, ranTo};
+ghost use Rattle.run.specs.Took.{Took, OpenedBy};
+ghost use Rattle.run.specs.Kept.{floorShown, lengthOf, Kept, Rooms};
 
 // Room for what any text prints: four pages and the lines of a refusal.
 pub const ROOM: usize = 655_424;
@@ -49,21 +55,168 @@ fn put_refusal(out: &mut [u8], at: usize, number: u64, line: usize) -> Ending
     }
 }
 
+// An hour of so many resources has its cells in a short state.
+const FEW_RESOURCES: usize = 4;
+
+const FEW_CELLS: usize = rules_state::ROWS_FROM + FEW_RESOURCES * rules_state::ROW_ROOM;
+
+// A longer text has most likely more resources.
+const FEW_BYTES: usize = 4096;
+
 // Puts what an interval says of its constraints at an offset, and answers the offset after it.
 fn put_verdicts(
     out: &mut [u8],
     at: usize,
     i: u64,
     constraints: usize,
-    verdicts: [Verdict; Interval::MAX_CONSTRAINTS],
+    verdicts: &[i64; rules_state::VERDICT_ROOM],
 ) -> usize
     requires { ⌜ at + 49152 ≤ length (now out) ⌝ }
-    ensures { λ r. ⌜ (now (out .exit) ≡ sets (now (out .entry)) at (verdictText i constraints verdicts)) × ((r ≡ at + length (verdictText i constraints verdicts)) × (r ≤ at + 49152)) ⌝ }
+    ensures { λ r. ⌜ (now (out .exit) ≡ sets (now (out .entry)) at (verdictText i constraints (verdictsIn (now (verdicts .entry))))) × ((r ≡ at + length (verdictText i constraints (verdictsIn (now (verdicts .entry))))) × (r ≤ at + 49152)) ⌝ }
 {
-    match page::print_verdicts(out, at, i, constraints, verdicts) {
+    match verdict_page::print_verdicts(out, at, i, constraints, verdicts) {
         Printed::To(next) => next,
         Printed::Full => at,
     }
+}
+
+// Puts a names line at an offset, and answers the offset after it.
+fn put_names(out: &mut [u8], at: usize, names: &[u8]) -> usize
+    requires { ⌜ at + length (now names) ≤ length (now out) ⌝ }
+    ensures { λ r. ⌜ (now (out .exit) ≡ sets (now (out .entry)) at (now (names .entry))) × (r ≡ at + length (now (names .entry))) ⌝ }
+{
+    match print::print_names(out, at, names) {
+        Printed::To(next) => next,
+        Printed::Full => at,
+    }
+}
+
+// Puts the lines of the curve of resource r that interval i leaves, and the width of each, and answers the offset after them.
+fn put_fresh(out: &mut [u8], at: usize, i: u64, r: usize, state: &[i64], widths: &mut [u8]) -> usize
+    requires { ⌜ (at + curveBytes ≤ length (now out)) × ((r < mostResources) × (length (now widths) ≡ mostMitigatedSteps * mostResources)) ⌝ }
+    ensures page { λ q. ⌜ Put curveBytes (now (out .entry)) at (groupText (printable i) r (curveRows (rowsIn (now (state .entry))) (standingIn (now (state .entry)) .floors) r)) (now (out .exit)) q ⌝ }
+    ensures widths { λ q. ⌜ now (widths .exit) ≡ sets (now (widths .entry)) (mostMitigatedSteps * r) (map (widthOf (printable i) r) (curveRows (rowsIn (now (state .entry))) (standingIn (now (state .entry)) .floors) r)) ⌝ }
+{
+    match curve_page::print_lines(out, at, i, r, state, widths, Mitigated::MAX_STEPS * r) {
+        Printed::To(next) => next,
+        Printed::Full => at,
+    }
+}
+
+// Puts the n bytes at an offset again, as lines of interval i, and answers the offset after them.
+fn put_again(
+    out: &mut [u8],
+    from: usize,
+    at: usize,
+    n: usize,
+    widths: &[u8],
+    base: usize,
+    i: u64,
+) -> usize
+    requires { ⌜ (from + n ≤ at) × ((at + n ≤ length (now out)) × (i < 10)) ⌝ }
+    ensures { λ q. ⌜ (now (out .exit) ≡ sets (now (out .entry)) at (linesAgain (now (out .entry)) from n (now (widths .entry)) base (48 + i))) × (q ≡ at + n) ⌝ }
+{
+    let first = (48 + i) as u8;
+    match line_copies::copy_lines(out, from, at, n, widths, base, first) {
+        Printed::To(next) => next,
+        Printed::Full => at,
+    }
+}
+
+// Whether two numbers are the same.
+fn is_same(a: i64, b: i64) -> bool
+    ensures { λ x. ⌜ (x ≡ true → a ≡ b) ⌝ }
+{
+    a == b
+}
+
+// Whether the lines of resource r were put at the floor price that it has.
+fn is_shown(state: &[i64], shown: &[i64], lines: &[usize], r: usize) -> bool
+    requires { ⌜ (r < mostResources) × ((rowsFrom ≤ length (now state)) × ((length (now shown) ≡ mostResources + mostResources) × (length (now lines) ≡ mostResources + mostResources))) ⌝ }
+    ensures { λ x. ⌜ (x ≡ true → (0 < lengthOf (now (lines .entry)) r) × (floorShown (now (shown .entry)) r ≡ getD (standingIn (now (state .entry)) .floors) r uncut)) ⌝ }
+{
+    if lines[Interval::MAX_RESOURCES + r] == 0 {
+        return false;
+    }
+    if !is_same(shown[r], state[1 + r]) {
+        return false;
+    }
+    is_same(
+        shown[Interval::MAX_RESOURCES + r],
+        state[1 + Interval::MAX_RESOURCES + r],
+    )
+}
+
+// Puts the lines of the curve of resource r that interval i leaves: as they stand on the page already where its floor price is the same.
+fn put_lines(
+    out: &mut [u8],
+    at: usize,
+    i: u64,
+    r: usize,
+    state: &[i64],
+    shown: &[i64],
+    lines: &[usize],
+    widths: &mut [u8],
+) -> usize
+    requires room { ⌜ (at + curveBytes ≤ length (now out)) × ((r < mostResources) × ((i < 10) × (rowsFrom ≤ length (now state)))) ⌝ }
+    requires rooms { ⌜ Rooms (now shown) (now lines) (now widths) ⌝ }
+    requires kept { ⌜ Kept (rowsIn (now state)) (now out) at (now shown) (now lines) (now widths) ⌝ }
+    ensures page { λ q. ⌜ Put curveBytes (now (out .entry)) at (groupText (printable i) r (curveRows (rowsIn (now (state .entry))) (standingIn (now (state .entry)) .floors) r)) (now (out .exit)) q ⌝ }
+    ensures widths { λ q. ⌜ now (widths .exit) ≡ sets (now (widths .entry)) (mostMitigatedSteps * r) (map (widthOf (printable i) r) (curveRows (rowsIn (now (state .entry))) (standingIn (now (state .entry)) .floors) r)) ⌝ }
+{
+    if !is_shown(state, shown, lines, r) {
+        return put_fresh(out, at, i, r, state, widths);
+    }
+    let n = lines[Interval::MAX_RESOURCES + r];
+    put_again(out, lines[r], at, n, widths, Mitigated::MAX_STEPS * r, i)
+}
+
+// Keeps where the lines of resource r stand, and at which floor price.
+fn keep_lines(
+    state: &[i64],
+    r: usize,
+    at: usize,
+    next: usize,
+    shown: &mut [i64],
+    lines: &mut [usize],
+)
+    requires { ⌜ (r < mostResources) × ((at ≤ next) × ((rowsFrom ≤ length (now state)) × ((length (now shown) ≡ mostResources + mostResources) × (length (now lines) ≡ mostResources + mostResources)))) ⌝ }
+    ensures shown { λ x. ⌜ now (shown .exit) ≡ set (set (now (shown .entry)) r (cellAt (now (state .entry)) (1 + r))) (mostResources + r) (cellAt (now (state .entry)) (1 + mostResources + r)) ⌝ }
+    ensures lines { λ x. ⌜ now (lines .exit) ≡ set (set (now (lines .entry)) r at) (mostResources + r) (next - at) ⌝ }
+{
+    shown[r] = state[1 + r];
+    shown[Interval::MAX_RESOURCES + r] = state[1 + Interval::MAX_RESOURCES + r];
+    lines[r] = at;
+    lines[Interval::MAX_RESOURCES + r] = next - at;
+}
+
+// Puts the lines of all curves that interval i leaves, and answers the offset after them.
+fn put_table(
+    out: &mut [u8],
+    at: usize,
+    i: u64,
+    state: &[i64],
+    shown: &mut [i64],
+    lines: &mut [usize],
+    widths: &mut [u8],
+) -> usize
+    requires room { ⌜ (at + curvesBytes ≤ length (now out)) × ((i < 10) × (rowsFrom ≤ length (now state))) ⌝ }
+    requires rooms { ⌜ Rooms (now shown) (now lines) (now widths) ⌝ }
+    requires kept { ⌜ Kept (rowsIn (now state)) (now out) at (now shown) (now lines) (now widths) ⌝ }
+    ensures page { λ q. ⌜ Put curvesBytes (now (out .entry)) at (curveTable i (marketIn (now (state .entry)) .resources) (rowsIn (now (state .entry))) (standingIn (now (state .entry)) .floors)) (now (out .exit)) q ⌝ }
+    ensures kept { λ q. ⌜ Kept (rowsIn (now (state .entry))) (now (out .exit)) q (now (shown .exit)) (now (lines .exit)) (now (widths .exit)) ⌝ }
+{
+    let resources = cells::whole_at(state, rules_state::MARKET_FROM) as usize;
+    let n = number::at_most(resources, Interval::MAX_RESOURCES);
+    let mut p = at;
+    let mut r: usize = 0;
+    while r < n {
+        let next = put_lines(out, p, i, r, state, shown, lines, widths);
+        keep_lines(state, r, p, next, shown, lines);
+        p = next;
+        r += 1;
+    }
+    p
 }
 
 // Puts the curves that an interval leaves at an offset, and answers the offset after them.
@@ -71,61 +224,56 @@ fn put_curves(
     out: &mut [u8],
     at: usize,
     i: u64,
-    resources: usize,
-    rows: [Row; Interval::MAX_RESOURCES],
-    floors: [Floor; Interval::MAX_RESOURCES],
+    state: &[i64],
+    shown: &mut [i64],
+    lines: &mut [usize],
+    widths: &mut [u8],
 ) -> usize
-    requires { ⌜ at + 114688 ≤ length (now out) ⌝ }
-    ensures { λ r. ⌜ (now (out .exit) ≡ sets (now (out .entry)) at (curveText i resources rows floors)) × ((r ≡ at + length (curveText i resources rows floors)) × (r ≤ at + 114688)) ⌝ }
+    requires room { ⌜ (at + 114688 ≤ length (now out)) × ((i < 10) × (rowsFrom ≤ length (now state))) ⌝ }
+    requires rooms { ⌜ Rooms (now shown) (now lines) (now widths) ⌝ }
+    requires kept { ⌜ Kept (rowsIn (now state)) (now out) at (now shown) (now lines) (now widths) ⌝ }
+    ensures page { λ q. ⌜ Put 114688 (now (out .entry)) at (curveText i (marketIn (now (state .entry)) .resources) (rowsIn (now (state .entry))) (standingIn (now (state .entry)) .floors)) (now (out .exit)) q ⌝ }
+    ensures kept { λ q. ⌜ Kept (rowsIn (now (state .entry))) (now (out .exit)) q (now (shown .exit)) (now (lines .exit)) (now (widths .exit)) ⌝ }
 {
-    match page::print_curves(out, at, i, resources, rows, floors) {
-        Printed::To(next) => next,
-        Printed::Full => at,
-    }
+    let next = put_names(out, at, b"interval resource end price\n");
+    put_table(out, next, i, state, shown, lines, widths)
 }
 
-// Puts what the intervals of a fresh hour print and answers how that ends, from an offset of the text before which `line` lines stand: each is read, taken and printed before the next.
-// Market and rows stay as they are, and the standing alone changes.
+// Puts what the intervals of the fresh hour of these cells print and answers how that ends, from an offset of the text before which so many lines stand: each is read,
+// taken and printed before the next.
 fn put_intervals(
     text: &[u8],
     start: usize,
     lines_before: usize,
-    fresh: Hour,
+    state: &mut [i64],
+    verdicts: &mut [i64; rules_state::VERDICT_ROOM],
     out: &mut [u8],
 ) -> Ending
-    requires fresh { ⌜ fresh .standing .accepted ≡ 0 ⌝ }
+    requires fresh { ⌜ standingIn (now state) .accepted ≡ 0 ⌝ }
+    requires cells { ⌜ (rowsFrom ≤ length (now state)) × (length (now verdicts) ≡ verdictRoom) ⌝ }
     requires room { ⌜ 655424 ≤ length (now out) ⌝ }
     requires text { ⌜ «lines_before» + length (lines (drop start (now text))) ≤ 65536 ⌝ }
-    ensures page { λ r. ⌜ now (out .exit) ≡ sets (now (out .entry)) 0 (hourText (asHour fresh) «lines_before» (lines (drop start (now (text .entry))))) ⌝ }
-    ensures next { λ r. ⌜ (r .at ≡ length (hourText (asHour fresh) «lines_before» (lines (drop start (now (text .entry)))))) × (r .at ≤ 655424) ⌝ }
-    ensures end { λ r. ⌜ endedBy (r .number) (r .line) ≡ hourEnd (asHour fresh) «lines_before» (lines (drop start (now (text .entry)))) ⌝ }
+    ensures page { λ r. ⌜ now (out .exit) ≡ sets (now (out .entry)) 0 (hourText (hourIn (now (state .entry)) .hour) «lines_before» (lines (drop start (now (text .entry))))) ⌝ }
+    ensures next { λ r. ⌜ (r .at ≡ length (hourText (hourIn (now (state .entry)) .hour) «lines_before» (lines (drop start (now (text .entry)))))) × (r .at ≤ 655424) ⌝ }
+    ensures end { λ r. ⌜ endedBy (r .number) (r .line) ≡ hourEnd (hourIn (now (state .entry)) .hour) «lines_before» (lines (drop start (now (text .entry)))) ⌝ }
 {
-    let market = fresh.market;
-    let rows = fresh.rows;
-    let mut standing = fresh.standing;
     let mut at = start;
     let mut line = lines_before;
     let mut i: u64 = 1;
     let mut p: usize = 0;
+    let mut shown = [0i64; 2 * Interval::MAX_RESOURCES];
+    let mut lines = [0usize; 2 * Interval::MAX_RESOURCES];
+    let mut widths = [0u8; Mitigated::MAX_STEPS * Interval::MAX_RESOURCES];
     while at < text.len() {
-        let read = interval_at(text, at, line);
-        let fault = read.fault;
-        if fault != 0 {
-            return put_refusal(out, p, 17, fault);
+        let taken = interval_part::part_taken(text, at, line, state, verdicts);
+        let number = taken.number;
+        if number != 0 {
+            return put_refusal(out, p, number, taken.line);
         }
-        let v = read.interval;
-        let taken = taking::take_interval(standing, market, v);
-        let outcome = taken.outcome;
-        if let Outcome::Refused(refusal) = outcome {
-            return put_refusal(out, p, curve::refusal_number(refusal), read.line);
-        }
-        let verdicts = taken.verdicts;
-        standing = taken.standing;
-        let floors = standing.floors;
-        p = put_verdicts(out, p, i, v.constraints, verdicts);
-        p = put_curves(out, p, i, market.resources, rows, floors);
-        at = read.next;
-        line = read.line;
+        p = put_verdicts(out, p, i, taken.constraints, verdicts);
+        p = put_curves(out, p, i, state, &mut shown, &mut lines, &mut widths);
+        at = taken.next;
+        line = taken.line;
         i += 1;
     }
     Ending {
@@ -133,6 +281,53 @@ fn put_intervals(
         number: 0,
         line: 0,
     }
+}
+
+// Puts what a text prints whose part that opens an hour was read, into these cells.
+fn put_opened(text: &[u8], opened: PartOpened, state: &mut [i64], out: &mut [u8]) -> Ending
+    requires room { ⌜ 655424 ≤ length (now out) ⌝ }
+    requires text { ⌜ length (now text) ≤ 65536 ⌝ }
+    requires cells { ⌜ rowsFrom + rowRoom * (opened .resources) ≤ length (now state) ⌝ }
+    requires opened { ⌜ OpenedBy (now text) (replicate (length (now state)) (pos 0)) (now state) (opened .number) (opened .line) (opened .next) (opened .resources) ⌝ }
+    ensures page { λ r. ⌜ now (out .exit) ≡ sets (now (out .entry)) 0 (partsText (lines (now (text .entry)))) ⌝ }
+    ensures next { λ r. ⌜ (r .at ≡ length (partsText (lines (now (text .entry))))) × (r .at ≤ 655424) ⌝ }
+    ensures end { λ r. ⌜ endedBy (r .number) (r .line) ≡ partsEnd (lines (now (text .entry))) ⌝ }
+{
+    let number = opened.number;
+    if number != 0 {
+        return put_refusal(out, 0, number, opened.line);
+    }
+    let mut verdicts = [0i64; rules_state::VERDICT_ROOM];
+    put_intervals(text, opened.next, opened.line, state, &mut verdicts, out)
+}
+
+// The same of a whole text, with cells for as many resources as an hour may have.
+fn put_many(text: &[u8], out: &mut [u8]) -> Ending
+    requires room { ⌜ 655424 ≤ length (now out) ⌝ }
+    requires text { ⌜ length (now text) ≤ 65536 ⌝ }
+    ensures page { λ r. ⌜ now (out .exit) ≡ sets (now (out .entry)) 0 (partsText (lines (now (text .entry)))) ⌝ }
+    ensures next { λ r. ⌜ (r .at ≡ length (partsText (lines (now (text .entry))))) × (r .at ≤ 655424) ⌝ }
+    ensures end { λ r. ⌜ endedBy (r .number) (r .line) ≡ partsEnd (lines (now (text .entry))) ⌝ }
+{
+    let mut state = [0i64; rules_state::STATE_ROOM];
+    let opened = opening_part::part_opened(text, &mut state);
+    put_opened(text, opened, &mut state, out)
+}
+
+// The same with cells for few.
+fn put_few(text: &[u8], out: &mut [u8]) -> Ending
+    requires room { ⌜ 655424 ≤ length (now out) ⌝ }
+    requires text { ⌜ length (now text) ≤ 65536 ⌝ }
+    ensures page { λ r. ⌜ now (out .exit) ≡ sets (now (out .entry)) 0 (partsText (lines (now (text .entry)))) ⌝ }
+    ensures next { λ r. ⌜ (r .at ≡ length (partsText (lines (now (text .entry))))) × (r .at ≤ 655424) ⌝ }
+    ensures end { λ r. ⌜ endedBy (r .number) (r .line) ≡ partsEnd (lines (now (text .entry))) ⌝ }
+{
+    let mut state = [0i64; FEW_CELLS];
+    let opened = opening_part::part_opened(text, &mut state);
+    if FEW_RESOURCES < opened.resources {
+        return put_many(text, out);
+    }
+    put_opened(text, opened, &mut state, out)
 }
 
 // Puts what the parts of a text print, and answers how that ends.
@@ -143,18 +338,10 @@ fn put_parts(text: &[u8], out: &mut [u8]) -> Ending
     ensures next { λ r. ⌜ (r .at ≡ length (partsText (lines (now (text .entry))))) × (r .at ≤ 655424) ⌝ }
     ensures end { λ r. ⌜ endedBy (r .number) (r .line) ≡ partsEnd (lines (now (text .entry))) ⌝ }
 {
-    let read = opening_at(text, 0, 0);
-    let fault = read.fault;
-    if fault != 0 {
-        return put_refusal(out, 0, 17, fault);
+    if text.len() <= FEW_BYTES {
+        return put_few(text, out);
     }
-    let opened = Hour::open(read.opening);
-    let outcome = opened.outcome;
-    if let Outcome::Refused(refusal) = outcome {
-        return put_refusal(out, 0, curve::refusal_number(refusal), read.line);
-    }
-    let hour = opened.hour;
-    put_intervals(text, read.next, read.line, hour, out)
+    put_many(text, out)
 }
 
 // Runs a text: prints into the lent page what paper 01 says of it, from the page's first byte on, and answers how many bytes that took, with the number and line

@@ -5,8 +5,6 @@ use mathlib.Core.List.{List}
 use native.Mathlib.Omega.{arith}
 use lib.IntN.{ℤ, pos, negsuc}
 use lib.ListN.{length, getD, List·getD-eq-default}
-use Rattle.rules_number.specs.Over.{listed}
-use Rattle.rules_number.proofs.ListedLaws.{listed-is}
 use Rattle.rules_number.proofs.OverLaws.{listed-length, listed-at}
 use Rattle.rules_mitigation.specs.declared.FloorPrice.the-variants.{Cut}
 use Rattle.rules_hour.specs.Hours.{uncut}
@@ -32,7 +30,3 @@ module _ (l : List ℤ) (from : ℕ) where
 
   pub floors-past : (r : ℕ) → mostResources ≤ r → getD (floorsIn l from) r uncut ≡ uncut
   floors-past r h = List·getD-eq-default (floorsIn l from) uncut (omega (arith, floors-length))
-
-  -- one by one they are all
-  pub floors-each : floorsIn l from ≡ listed (λ r. getD (floorsIn l from) r uncut) mostResources
-  floors-each = listed-is uncut (floorsIn l from) _ mostResources floors-length (λ q h. refl)

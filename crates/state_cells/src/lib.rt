@@ -1,9 +1,7 @@
-// The standing and the quarter hour that a lent slice of numbers stands for: a number past its end counts as 0. The contracts cite the definitions of rules_state.
+// The floor prices of the hour that a lent slice of numbers stands for: a number past its end counts as 0. The contracts cite the definitions of rules_state.
 use rules_hour::Floor;
-use rules_hour::Standing;
 use rules_interval::Interval;
 use rules_mitigation::FloorPrice;
-use rules_pass::Quarter;
 ghost use mathlib.Core.Path.{_≡_};
 ghost use Prim.Native.Nat.{_≤_};
 ghost use lib.ListN.{getD};
@@ -38,40 +36,6 @@ fn floor_from(state: &[i64], from: usize, r: usize) -> Floor
     let mark = cells::cell_at(state, from + r);
     let price = cells::cell_at(state, from + Interval::MAX_RESOURCES + r);
     floor_of(mark, price)
-}
-
-// The floor price of each resource.
-fn floors_in(state: &[i64], from: usize) -> [Floor; Interval::MAX_RESOURCES]
-    requires { ⌜ from ≤ marketFrom ⌝ }
-    ensures { λ x. ⌜ x ≡ floorsIn (now (state .entry)) from ⌝ }
-{
-    let mut floors = [Floor {
-        price: FloorPrice::Uncut,
-    }; Interval::MAX_RESOURCES];
-    let mut r: usize = 0;
-    while r < Interval::MAX_RESOURCES {
-        floors[r] = floor_from(state, from, r);
-        r += 1;
-    }
-    floors
-}
-
-pub fn standing_in(state: &[i64]) -> Standing
-    ensures { λ x. ⌜ x ≡ standingIn (now (state .entry)) ⌝ }
-{
-    Standing {
-        accepted: cells::whole_at(state, 0),
-        floors: floors_in(state, 1),
-    }
-}
-
-pub fn quarter_in(state: &[i64]) -> Quarter
-    ensures { λ x. ⌜ x ≡ quarterIn (now (state .entry)) ⌝ }
-{
-    Quarter {
-        passes: cells::whole_at(state, rules_state::QUARTER_FROM),
-        floors: floors_in(state, rules_state::QUARTER_FROM + 1),
-    }
 }
 
 // The floor price of resource r in the standing, and in the quarter hour: uncut where there is no such resource.

@@ -1,7 +1,7 @@
 -- An hour in numbers, in full: what every cell of a state means, what each call makes of it, and the papers' sentences on states that were opened and then called. Assumes nothing.
 use mathlib.Core.List.{List, _∷_, map}
-use mathlib.Core.Logic.{_↔_, _⊎_}
-use mathlib.Core.Path.{_≡_, sym, ap, subst, _∙_}
+use mathlib.Core.Logic.{_↔_, _⊎_, inl, inr}
+use mathlib.Core.Path.{_≡_, refl, sym, ap, subst, _∙_}
 use Prim.Native.Nat.{ℕ, _+_, _*_, _≤_, _<_, min}
 use borrow.Author.Tests.{le-leb}
 use lib.IntN.{ℤ, pos, negsuc, _+ℤ_, _-ℤ_, _*ℤ_}
@@ -26,6 +26,7 @@ use Rattle.rules_opening.specs.Openings.{noResource, openingRefusal}
 use Rattle.rules_opening.specs.declared.Opening.{Opening}
 use Rattle.rules_opening.specs.declared.Resource.{Resource}
 use Rattle.rules_opening.specs.declared.Source.the-variants as source
+use Rattle.rules_hour.specs.Cuts.{cutOf}
 use Rattle.rules_hour.specs.Hours.{uncut, noRow, curveIn, hourRefusal}
 use Rattle.rules_pass.specs.Passes.{RealTimeHour, openedRealTime, intervalAfter, passRefusal, passAfter, fiveMinuteIn}
 use Rattle.rules_pass.specs.Calls.{requestRefusal, afterAll}
@@ -41,7 +42,7 @@ use Rattle.rules_state.proofs.StateCells.{CurveCells, state-cells}
 use Rattle.rules_state.proofs.ReadNumbers.{CurveRead, opening-read, interval-read}
 use Rattle.rules_state.proofs.HourBack.{stored-back}
 use Rattle.rules_state.proofs.OpenedFits.{opened-fits}
-use Rattle.rules_state.proofs.StateCalls.{zero-opened, opening-answer, state-opened, opening-refused, opening-short, opening-past, interval-answer, interval-refused, interval-short, interval-touches, state-interval, pass-answer, pass-refused, pass-short, pass-touches, state-pass}
+use Rattle.rules_state.proofs.StateCalls.{zero-opened, opening-answer, state-opened, opening-refused, opening-short, opening-past, interval-answer, interval-refused, interval-short, interval-touches, interval-keeps, state-interval, pass-answer, pass-refused, pass-short, pass-touches, pass-keeps, state-pass}
 use Rattle.rules_state.proofs.NumberCalls.{calls-in-numbers, calls-touch, called-hour, next-answer}
 use Rattle.rules_state.proofs.WrittenSlices.{CurveWritten, curve-answer, curve-short, curve-unwritten, five-minute-unwritten, hour-bid-unwritten, curve-written, five-minute-written, hour-bid-written, default-written, VerdictCells, interval-verdicts, pass-verdicts, interval-verdicts-left, pass-verdicts-left, causes-left, default-left, default-answer, default-short, why-short}
 use Rattle.rules_state.proofs.DefaultNumbers.{default-in-numbers}
@@ -223,11 +224,16 @@ module _ (s verdicts : List ℤ) (v : Interval) where
     pub interval-short : (length s < 3411) ⊎ (length verdicts < 640) → (intervalAnswer s verdicts v ≡ negsuc 0) × (stateAfterInterval s verdicts v ≡ s)
     -- an interval leaves market and rows alone, and a pass the standing too
     pub interval-leaves : (k : ℕ) → 258 ≤ k → at (stateAfterInterval s verdicts v) k ≡ at s k
+    -- and of the standing all but the count, and mark and price of each resource that it cuts
+    pub interval-keeps : (r : ℕ) → r < 64 → cutOf (hourIn s .hour .market) v r ≡ Uncut
+        → (at (stateAfterInterval s verdicts v) (1 + r) ≡ at s (1 + r)) × (at (stateAfterInterval s verdicts v) (65 + r) ≡ at s (65 + r))
     pub pass-number : 3411 ≤ length s → 640 ≤ length verdicts → passAnswer s verdicts v ≡ pos (passRefusal (hourIn s) v)
     pub pass-hour : 3411 ≤ length s → 640 ≤ length verdicts → hourIn (stateAfterPass s verdicts v) ≡ passAfter (hourIn s) v
     pub pass-refused : (passAnswer s verdicts v ≡ pos 0 → ⊥) → stateAfterPass s verdicts v ≡ s
     pub pass-short : (length s < 3411) ⊎ (length verdicts < 640) → (passAnswer s verdicts v ≡ negsuc 0) × (stateAfterPass s verdicts v ≡ s)
     pub pass-leaves : (k : ℕ) → (k < 129) ⊎ (258 ≤ k) → at (stateAfterPass s verdicts v) k ≡ at s k
+    pub pass-keeps : (r : ℕ) → r < 64 → cutOf (hourIn s .hour .market) v r ≡ Uncut
+        → (at (stateAfterPass s verdicts v) (130 + r) ≡ at s (130 + r)) × (at (stateAfterPass s verdicts v) (194 + r) ≡ at s (194 + r))
 
   pub takes-state : TakesState
   takes-state = record {
@@ -236,11 +242,13 @@ module _ (s verdicts : List ℤ) (v : Interval) where
     interval-refused = interval-refused s verdicts v;
     interval-short = interval-short s verdicts v;
     interval-leaves = interval-touches s verdicts v;
+    interval-keeps = λ r h u. (interval-keeps s verdicts v r h u (1 + r) (inl refl), interval-keeps s verdicts v r h u (65 + r) (inr refl));
     pass-number = pass-answer s verdicts v;
     pass-hour = state-pass s verdicts v;
     pass-refused = pass-refused s verdicts v;
     pass-short = pass-short s verdicts v;
     pass-leaves = pass-touches s verdicts v;
+    pass-keeps = λ r h u. (pass-keeps s verdicts v r h u (130 + r) (inl refl), pass-keeps s verdicts v r h u (194 + r) (inr refl));
   }
 
 -- ---- every list of calls, from every state

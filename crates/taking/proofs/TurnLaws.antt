@@ -6,7 +6,9 @@ use Prim.Native.Nat.{ℕ, zero, suc, _+_, _≤_, _<_}
 use native.Mathlib.Omega.{arith}
 use borrow.Author.Tests.{lt-ltb, le-ltb}
 use lib.Dec.{ltb}
-use lib.ListN.{replicate}
+use lib.IntN.{ℤ}
+use lib.ListN.{set, replicate}
+use Rattle.rules_number.specs.Order.{natOf}
 use Rattle.rules_curve.specs.Refusals.{unless, _then_}
 use Rattle.rules_interval.specs.Intervals.{intervalRefusal}
 use Rattle.rules_interval.specs.declared.Interval.{Interval}
@@ -18,6 +20,10 @@ use Rattle.rules_hour.specs.declared.Floor.{Floor}
 use Rattle.rules_hour.specs.declared.Standing.{Standing}
 use Rattle.rules_pass.specs.Passes.{turnRefusal, nextQuarter, quarterUnless, quarterAfter, turnVerdicts}
 use Rattle.rules_pass.specs.declared.Quarter.{Quarter}
+use Rattle.rules_library.specs.Slices.{cellAt}
+use Rattle.rules_state.specs.Layout.{quarterFrom}
+use Rattle.rules_state.specs.States.{cellOf, standingIn, quarterIn, marketIn}
+use Rattle.rules_state.specs.Takes.{ifAccepted, cutsTo, standingWritten, quarterWritten}
 
 -- ---- an interval
 module _ (m : Market) (s : Standing) (v : Interval) where
@@ -90,3 +96,33 @@ module _ (m : Market) (accepted : ℕ) (k : Quarter) (v : Interval) where
 pub floors-taken : (m : Market) (v : Interval) (floors : List Floor) → intervalRefusal (m .resources) v ≡ 0 → floorsAfter m v floors ≡ cutFloors m v floors
 unfolding floorsAfter
 floors-taken m v floors e = ap (λ (n : ℕ). floorsUnless n (cutFloors m v floors) floors) e
+
+-- ---- in cells
+module _ (l : List ℤ) (v : Interval) where
+  abbrev m : Market
+  m = marketIn l
+
+  pub accepted-in : standingIn l .accepted ≡ natOf (cellAt l 0)
+  unfolding standingIn
+  accepted-in = refl
+
+  pub passes-in : quarterIn l .passes ≡ natOf (cellAt l quarterFrom)
+  unfolding quarterIn
+  passes-in = refl
+
+  -- an accepted interval: its cuts, and then the count
+  pub interval-written : (cut after : List ℤ) (n : ℕ) → n ≡ intervalRefusal (m .resources) v → intervalRefusal (m .resources) v ≡ 0
+      → cut ≡ ifAccepted (intervalRefusal (m .resources) v) (cutsTo m v 1 (m .resources) l) l → after ≡ set cut 0 (cellOf (standingIn l .accepted + 1))
+      → after ≡ ifAccepted n (standingWritten l v) l
+  unfolding standingWritten
+  interval-written cut after n own sound a b = rw (own, sound) (b ∙ ap (λ (x : List ℤ). set x 0 (cellOf (standingIn l .accepted + 1))) (rw sound at a))
+
+  pub pass-written : (cut after : List ℤ) (n : ℕ) → n ≡ intervalRefusal (m .resources) v → intervalRefusal (m .resources) v ≡ 0
+      → cut ≡ ifAccepted (intervalRefusal (m .resources) v) (cutsTo m v (quarterFrom + 1) (m .resources) l) l → after ≡ set cut quarterFrom (cellOf (quarterIn l .passes + 1))
+      → after ≡ ifAccepted n (quarterWritten l v) l
+  unfolding quarterWritten
+  pass-written cut after n own sound a b = rw (own, sound) (b ∙ ap (λ (x : List ℤ). set x quarterFrom (cellOf (quarterIn l .passes + 1))) (rw sound at a))
+
+-- what is written by one number is written by the same number
+pub same-number : {A : Type 0} (n k : ℕ) (x a b : A) → n ≡ k → x ≡ ifAccepted k a b → x ≡ ifAccepted n a b
+same-number n k x a b e h = h ∙ ap (λ (i : ℕ). ifAccepted i a b) (sym e)

@@ -2,10 +2,15 @@
 // to 16; paper 02, 2.1: 19). The contracts cite the definitions of rules_hour and rules_pass.
 ghost use mathlib.Core.Path.{_≡_};
 ghost use lib.ListN.{replicate};
+ghost use lib.Seq.{sets};
 ghost use Rattle.rules_curve.specs.Refusals.{outcomeNumber};
+ghost use Rattle.rules_interval.specs.Intervals.{intervalOf};
 ghost use Rattle.rules_path.specs.Verdicts.{notBinding};
 ghost use Rattle.rules_hour.specs.Hours.{callRefusal, standingAfter, callVerdicts};
 ghost use Rattle.rules_pass.specs.Passes.{turnRefusal, quarterAfter, turnVerdicts};
+ghost use Rattle.rules_state.specs.States.{standingIn, quarterIn, marketIn};
+ghost use Rattle.rules_state.specs.Verdicts.{verdictsCells, judgedCells};
+ghost use Rattle.rules_state.specs.Takes.{ifAccepted, standingWritten, quarterWritten};
 use rules_curve::Outcome;
 use rules_curve::Refusal;
 use rules_hour::Standing;
@@ -134,5 +139,121 @@ pub fn take_pass(quarter: Quarter, accepted: u64, market: Market, v: Interval) -
             floors: left,
         },
         verdicts,
+    }
+}
+
+// An interval of these values taken in the hour that the state stands for: its cuts and the count go into the state, and its verdicts to the front of `verdicts`; or the
+// lowest of refusals 12 to 16 that applies, and both as they were.
+pub fn take_into<'a>(
+    state: &mut [i64],
+    constraints: usize,
+    shadow: &'a [i64; Interval::MAX_CONSTRAINTS],
+    resources: usize,
+    lmp: &'a [i64; Interval::MAX_RESOURCES],
+    dispatch: &'a [i64; Interval::MAX_RESOURCES],
+    available: &'a [i64; Interval::MAX_RESOURCES],
+    floor: &'a [i64; Interval::MAX_RESOURCES],
+    factors: &'a [i64],
+    parameter: i64,
+    verdicts: &mut [i64; rules_state::VERDICT_ROOM],
+) -> Outcome
+    ensures number { λ r. ⌜ outcomeNumber r ≡ callRefusal (marketIn (now (state .entry))) (standingIn (now (state .entry))) (intervalOf constraints (now (shadow .entry)) resources (now (lmp .entry)) (now (dispatch .entry)) (now (available .entry)) (now (floor .entry)) (now (factors .entry)) parameter) ⌝ }
+    ensures state { λ r. ⌜ now (state .exit) ≡ ifAccepted (callRefusal (marketIn (now (state .entry))) (standingIn (now (state .entry))) (intervalOf constraints (now (shadow .entry)) resources (now (lmp .entry)) (now (dispatch .entry)) (now (available .entry)) (now (floor .entry)) (now (factors .entry)) parameter)) (standingWritten (now (state .entry)) (intervalOf constraints (now (shadow .entry)) resources (now (lmp .entry)) (now (dispatch .entry)) (now (available .entry)) (now (floor .entry)) (now (factors .entry)) parameter)) (now (state .entry)) ⌝ }
+    ensures verdicts { λ r. ⌜ now (verdicts .exit) ≡ ifAccepted (callRefusal (marketIn (now (state .entry))) (standingIn (now (state .entry))) (intervalOf constraints (now (shadow .entry)) resources (now (lmp .entry)) (now (dispatch .entry)) (now (available .entry)) (now (floor .entry)) (now (factors .entry)) parameter)) (sets (now (verdicts .entry)) 0 (judgedCells (marketIn (now (state .entry))) (intervalOf constraints (now (shadow .entry)) resources (now (lmp .entry)) (now (dispatch .entry)) (now (available .entry)) (now (floor .entry)) (now (factors .entry)) parameter))) (now (verdicts .entry)) ⌝ }
+{
+    let accepted = cells::whole_at(state, 0);
+    if Standing::MAX_INTERVALS <= accepted {
+        return Outcome::Refused(Refusal::HourFull);
+    }
+    let outcome = cutting::cut_into(
+        state,
+        false,
+        constraints,
+        shadow,
+        resources,
+        lmp,
+        dispatch,
+        available,
+        floor,
+        factors,
+        parameter,
+        verdicts,
+    );
+    let Outcome::Accepted = outcome else {
+        return outcome;
+    };
+    cells::put_whole(state, 0, accepted + 1);
+    outcome
+}
+
+// A pass of these values taken in the hour that the state stands for, into its quarter hour; or 19, or the lowest of refusals 13 to 16 that applies, and the state and
+// `verdicts` as they were.
+pub fn pass_into<'a>(
+    state: &mut [i64],
+    constraints: usize,
+    shadow: &'a [i64; Interval::MAX_CONSTRAINTS],
+    resources: usize,
+    lmp: &'a [i64; Interval::MAX_RESOURCES],
+    dispatch: &'a [i64; Interval::MAX_RESOURCES],
+    available: &'a [i64; Interval::MAX_RESOURCES],
+    floor: &'a [i64; Interval::MAX_RESOURCES],
+    factors: &'a [i64],
+    parameter: i64,
+    verdicts: &mut [i64; rules_state::VERDICT_ROOM],
+) -> Outcome
+    ensures number { λ r. ⌜ outcomeNumber r ≡ turnRefusal (marketIn (now (state .entry))) (standingIn (now (state .entry)) .accepted) (quarterIn (now (state .entry))) (intervalOf constraints (now (shadow .entry)) resources (now (lmp .entry)) (now (dispatch .entry)) (now (available .entry)) (now (floor .entry)) (now (factors .entry)) parameter) ⌝ }
+    ensures state { λ r. ⌜ now (state .exit) ≡ ifAccepted (turnRefusal (marketIn (now (state .entry))) (standingIn (now (state .entry)) .accepted) (quarterIn (now (state .entry))) (intervalOf constraints (now (shadow .entry)) resources (now (lmp .entry)) (now (dispatch .entry)) (now (available .entry)) (now (floor .entry)) (now (factors .entry)) parameter)) (quarterWritten (now (state .entry)) (intervalOf constraints (now (shadow .entry)) resources (now (lmp .entry)) (now (dispatch .entry)) (now (available .entry)) (now (floor .entry)) (now (factors .entry)) parameter)) (now (state .entry)) ⌝ }
+    ensures verdicts { λ r. ⌜ now (verdicts .exit) ≡ ifAccepted (turnRefusal (marketIn (now (state .entry))) (standingIn (now (state .entry)) .accepted) (quarterIn (now (state .entry))) (intervalOf constraints (now (shadow .entry)) resources (now (lmp .entry)) (now (dispatch .entry)) (now (available .entry)) (now (floor .entry)) (now (factors .entry)) parameter)) (sets (now (verdicts .entry)) 0 (judgedCells (marketIn (now (state .entry))) (intervalOf constraints (now (shadow .entry)) resources (now (lmp .entry)) (now (dispatch .entry)) (now (available .entry)) (now (floor .entry)) (now (factors .entry)) parameter))) (now (verdicts .entry)) ⌝ }
+{
+    let accepted = cells::whole_at(state, 0);
+    let passes = cells::whole_at(state, rules_state::QUARTER_FROM);
+    if accepted <= 0 {
+        return Outcome::Refused(Refusal::PassTurn);
+    }
+    if Quarter::MAX_PASSES <= passes {
+        return Outcome::Refused(Refusal::PassTurn);
+    }
+    let outcome = cutting::cut_into(
+        state,
+        true,
+        constraints,
+        shadow,
+        resources,
+        lmp,
+        dispatch,
+        available,
+        floor,
+        factors,
+        parameter,
+        verdicts,
+    );
+    let Outcome::Accepted = outcome else {
+        return outcome;
+    };
+    cells::put_whole(state, rules_state::QUARTER_FROM, passes + 1);
+    outcome
+}
+
+// The cells of verdicts that are not binding, one for each constraint.
+pub fn none_found() -> [i64; rules_state::VERDICT_ROOM]
+    ensures { λ r. ⌜ r ≡ verdictsCells (replicate 32 notBinding) ⌝ }
+{
+    let mut found = [0i64; rules_state::VERDICT_ROOM];
+    let mut c: usize = 0;
+    while c < Interval::MAX_CONSTRAINTS {
+        found[rules_state::VERDICT_WIDTH * c] = 2;
+        c += 1;
+    }
+    found
+}
+
+// Puts the cells of verdicts at the front of a slice.
+pub fn put_found(out: &mut [i64], found: &[i64])
+    ensures { λ x. ⌜ now (out .exit) ≡ sets (now (out .entry)) 0 (now (found .entry)) ⌝ }
+{
+    let mut i: usize = 0;
+    while i < found.len() {
+        cells::put(out, i, found[i]);
+        i += 1;
     }
 }

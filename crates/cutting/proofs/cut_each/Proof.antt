@@ -26,9 +26,6 @@ abbrev μ-loop : tie.MeasureT-loop
 floors-length : (c : tie.Start Inv-loop μ-loop) → length (c .args .floors) ≡ 64
 floors-length c = c .good .0 .1 .0 .1
 
-factors-length : (c : tie.After-component-of-arg Inv-loop μ-loop) → length (c .before .before .before .before .before .before .args .factors .now) ≡ 2048
-factors-length c = search needs
-
 few : (l : tie.In-loop Inv-loop μ-loop) → l .before .loop .r < 64
 few l = omega (arith, l .before .before .before .before .pre .few)
 
@@ -43,7 +40,7 @@ weighs c =
     let s = l .before .before .before .before in
     let a = s .args in
     rw (weights-are (l .before))
-    (weighable (a .constraints) (a .shadow .now) (a .resources) (a .lmp .now) (a .factors .now) (a .parameter) (s .pre) (a .verdicts) (factors-length c) (l .before .loop .r) (l .loop-test .taken))
+    (weighable (a .constraints) (a .shadow .now) (a .resources) (a .lmp .now) (a .factors .now) (a .parameter) (s .pre) (a .verdicts) (l .before .loop .r) (l .loop-test .taken))
 
 -- the component of a resource, at the numbers themselves
 component-is : (c : tie.After-component-of Inv-loop μ-loop)

@@ -24,12 +24,12 @@ few : (c : tie.Else3) → constraintsGood (lent (c .before .before .before)) ≡
 few c = le-leb (c .before .before .before .args .constraints) 32 (c .if3 .left)
 
 -- the result of the first call
-ranges-is : (c : tie.After-ranges-good) → c .ranges-good .result ≡ inRanges (lent (c .before .before .before .before .before .before .before))
+ranges-is : (c : tie.After-ranges-good) → c .ranges-good .result ≡ inRanges (lent (c .before .before .before .before .before .before))
 ranges-is c =
-    let s = c .before .before .before .before .before .before .before in
+    let s = c .before .before .before .before .before .before in
     simp (came (s .args .parameter) (s .fits .parameter .sfits)) at (c .ranges-good .ensures)
 
-ranges-in : (c : tie.Else4) → inRanges (lent (c .before .before .before .before .before .before .before .before)) ≡ true
+ranges-in : (c : tie.Else4) → inRanges (lent (c .before .before .before .before .before .before .before)) ≡ true
 ranges-in c = sym (ranges-is (c .before)) ∙ not-false _ (c .if4 .left)
 
 returns : tie.Need-returns
@@ -52,7 +52,7 @@ ranges-good-requires c κs = search needs
 
 returns-4 : tie.Need-returns-4
 returns-4 c =
-    let e = c .before .before .before .before .before in
+    let e = c .before .before .before .before in
     let s = e .before .before .before in
     sym (refused-range (s .args .known) (lent s) (same (e .before)) (few e) (sym (ranges-is (c .before)) ∙ not-true _ (c .if4 .taken)))
 
@@ -62,14 +62,14 @@ outputs-good-requires c κs = search needs
 returns-5 : tie.Need-returns-5
 returns-5 c =
     let d = c .before .before .before .before .before in
-    let e = d .before .before .before .before .before in
+    let e = d .before .before .before .before in
     let s = e .before .before .before in
     sym (refused-output (s .args .known) (lent s) (same (e .before)) (few e) (ranges-in d) (sym (c .before .outputs-good .ensures) ∙ not-true _ (c .if5 .taken)))
 
 returns-6 : tie.Need-returns-6
 returns-6 c =
     let d = c .before .before .before .before .before in
-    let e = d .before .before .before .before .before in
+    let e = d .before .before .before .before in
     let s = e .before .before .before in
     sym (taken-interval (s .args .known) (lent s) (same (e .before)) (few e) (ranges-in d) (sym (c .before .outputs-good .ensures) ∙ not-false _ (c .if5 .left)))
 

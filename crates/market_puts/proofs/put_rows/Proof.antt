@@ -11,7 +11,6 @@ use Rattle.rules_opening.specs.declared.Row.{Row}
 use Rattle.rules_state.specs.Layout.{mostResources, rowsFrom, rowRoom}
 use Rattle.rules_state.specs.States.{rowCells}
 use Rattle.cells.proofs.PutLaws.{BlocksLeft, blocks-begin, blocks-go-on, blocks-end}
-use Rattle.market_puts.proofs.CurveLaws.{row-length, row-put}
 use Rattle.market_puts.proofs.put_rows.Statement.{statement}
 use Rattle.market_puts.proofs.put_rows.Tie as tie
 
@@ -40,20 +39,14 @@ mul-row c = search needs
 array-copy-out-row : tie.Need-array-copy-out-row Inv-loop μ-loop
 array-copy-out-row c = search needs
 
-mul-at : tie.Need-mul-at Inv-loop μ-loop
-mul-at c = search needs
+mul-put-row : tie.Need-mul-put-row Inv-loop μ-loop
+mul-put-row c = search needs
 
-add-at : tie.Need-add-at Inv-loop μ-loop
-add-at c = search needs
+add-put-row : tie.Need-add-put-row Inv-loop μ-loop
+add-put-row c = search needs
 
-put-curve-requires : tie.Need-put-curve-requires Inv-loop μ-loop
-put-curve-requires c κs = search needs
-
-add-put-curve : tie.Need-add-put-curve Inv-loop μ-loop
-add-put-curve c = search needs
-
-put-curve-requires-2 : tie.Need-put-curve-requires-2 Inv-loop μ-loop
-put-curve-requires-2 c κs = search needs
+put-row-requires : tie.Need-put-row-requires Inv-loop μ-loop
+put-row-requires c κs = search needs
 
 add-r : tie.Need-add-r Inv-loop μ-loop
 add-r c = search needs
@@ -63,16 +56,15 @@ loop-less c = search needs
 
 loop-again : tie.Need-loop-again Inv-loop μ-loop
 loop-again c =
-    let q = c .before in
-    let p = q .before .before .before in
-    let l = p .before .before .before .before .before .before in
+    let p = c .before in
+    let l = p .before .before .before .before in
     let a = l .before .args in
     let x = getD (a .t2) (l .loop .r) noRow in
-    let out = row-put x (p .put-curve .ensures .0) (q .put-curve2 .ensures .0) (l .loop .state) _ _ (rowsFrom + rowRoom * l .loop .r) (p .put-curve .ensures .1) (q .put-curve2 .ensures .1) in (
+    let out = p .put-row .ensures .1 in (
       omega arith,
       ap length out ∙ length-sets (l .loop .state) (rowsFrom + rowRoom * l .loop .r) (rowCells x) ∙ l .loop .inv .1,
       blocks-go-on rowCells rowRoom (a .t2) (a .state .now) rowsFrom noRow (l .loop .state) (l .loop .r) _ (l .loop .inv .2) (omega (arith, many (l .before)))
-          (row-length x (p .put-curve .ensures .0) (q .put-curve2 .ensures .0)) out,
+          (p .put-row .ensures .0) out,
     )
 
 same-length : tie.Need-same-length Inv-loop μ-loop
@@ -93,11 +85,9 @@ put-rows-spec =
     loop-holds
     mul-row
     array-copy-out-row
-    mul-at
-    add-at
-    put-curve-requires
-    add-put-curve
-    put-curve-requires-2
+    mul-put-row
+    add-put-row
+    put-row-requires
     add-r
     loop-less
     loop-again

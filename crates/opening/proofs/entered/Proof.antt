@@ -62,8 +62,11 @@ returns c =
     let o = t .before .before .before .args .o in
     rw (c .refused .ensures .0, c .refused .ensures .1 .0, c .refused .ensures .1 .1, refused-counts o (sym (counts-is (t .before)) ∙ not-true _ (t .if1 .taken))) (refl, (refl, refl))
 
+slice-aggregate-sellers-good : tie.Need-slice-aggregate-sellers-good
+slice-aggregate-sellers-good c = search needs
+
 sellers-good-requires : tie.Need-sellers-good-requires
-sellers-good-requires c κs = room (c .before .before) .0
+sellers-good-requires c κs = search needs
 
 refused-requires-2 : tie.Need-refused-requires-2
 refused-requires-2 c κs = search needs
@@ -120,6 +123,7 @@ entered-spec =
     counts-good-requires
     refused-requires
     returns
+    slice-aggregate-sellers-good
     sellers-good-requires
     refused-requires-2
     returns-2

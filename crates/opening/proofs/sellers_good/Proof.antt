@@ -27,18 +27,15 @@ abbrev μ-loop : tie.MeasureT-loop
 
 is : (c : tie.After-within Inv-loop μ-loop) → c .within .result ≡ good (c .before .before .before .before .args .sellers .now) (c .before .before .before .loop .p)
 is c =
-    let l = c .before .before .before in
-    simp (came (cell (l .before .args .sellers .now) (l .loop .p)) (c .before .within-arg .given)) at (c .within .ensures)
+    let m = c .before in
+    rw (came (m .mark-at .result) (m .mark-at .ok), m .mark-at .ensures) at (c .within .ensures)
 
 loop-holds : tie.Need-loop-holds Inv-loop μ-loop
 unfolding allTo
 loop-holds c = (omega arith, refl)
 
-mul-within : tie.Need-mul-within Inv-loop μ-loop
-mul-within c = search needs
-
-element-copy-out-within : tie.Need-element-copy-out-within Inv-loop μ-loop
-element-copy-out-within c = search needs
+mark-at-requires : tie.Need-mark-at-requires Inv-loop μ-loop
+mark-at-requires c κs = search needs
 
 within-requires : tie.Need-within-requires Inv-loop μ-loop
 within-requires c κs = search needs
@@ -73,8 +70,7 @@ sellers-good-spec =
     Inv-loop
     μ-loop
     loop-holds
-    mul-within
-    element-copy-out-within
+    mark-at-requires
     within-requires
     returns
     add-p

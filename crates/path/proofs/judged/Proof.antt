@@ -29,17 +29,17 @@ abbrev μ-loop : tie.MeasureT-loop
 abbrev lent : tie.Start Inv-loop μ-loop → Interval
 lent s = intervalOf (s .args .constraints) (s .args .shadow .now) (s .args .resources) (s .args .lmp .now) (s .args .dispatch .now) (s .args .available .now) (s .args .floor .now) (s .args .factors .now) (s .args .parameter)
 
-checked-is : (c : tie.After-checked Inv-loop μ-loop) → outcomeNumber (c .checked .result) ≡ intervalRefusal (c .before .before .before .before .args .market .resources) (lent (c .before .before .before .before))
+checked-is : (c : tie.After-checked Inv-loop μ-loop) → outcomeNumber (c .checked .result) ≡ intervalRefusal (c .before .before .before .before .before .args .market .resources) (lent (c .before .before .before .before .before))
 checked-is c =
-    let s = c .before .before .before .before in
+    let s = c .before .before .before .before .before in
     simp (came (s .args .parameter) (s .fits .parameter .sfits)) at (c .checked .ensures)
 
 -- none of 13 to 16 applies where the outcome is accepted
-passed : (c : tie.After-enum-told Inv-loop μ-loop) → intervalRefusal (c .before .before .before .before .before .before .args .market .resources) (lent (c .before .before .before .before .before .before)) ≡ 0
+passed : (c : tie.After-enum-told Inv-loop μ-loop) → intervalRefusal (c .before .before .before .before .before .before .before .args .market .resources) (lent (c .before .before .before .before .before .before .before)) ≡ 0
 passed c = sym (checked-is (c .before .before)) ∙ ap outcomeNumber (c .enum-told .given .1)
 
-limits : (c : tie.After-enum-told Inv-loop μ-loop) → InLimits (c .before .before .before .before .before .before .args .market .resources) (lent (c .before .before .before .before .before .before))
-limits c = let s = c .before .before .before .before .before .before in in-limits (s .args .market .resources) (lent s) (passed c)
+limits : (c : tie.After-enum-told Inv-loop μ-loop) → InLimits (c .before .before .before .before .before .before .before .args .market .resources) (lent (c .before .before .before .before .before .before .before))
+limits c = let s = c .before .before .before .before .before .before .before in in-limits (s .args .market .resources) (lent s) (passed c)
 
 few : (l : tie.In-loop Inv-loop μ-loop) → l .before .loop .c < 32
 few l = omega (arith, limits (l .before .before) .constraints)
@@ -60,14 +60,14 @@ returns : tie.Need-returns Inv-loop μ-loop
 unfolding judgedVerdicts
 returns c =
     let d = c .before .before in
-    let s = d .before .before .before .before in
+    let s = d .before .before .before .before .before in
     let k = c .enum-told2 .given in
     let e : 0 < intervalRefusal (s .args .market .resources) (lent s) = rw (← (checked-is d), k .1) (refused-number (k .0 .0)) in
-    (checked-is d, rw (d .before .before .before .not-binding .ensures) (sym (refused-verdicts (intervalRefusal (s .args .market .resources) (lent s)) (verdictsOf (s .args .market) (lent s)) e)))
+    (checked-is d, rw (d .before .before .before .before .not-binding .ensures) (sym (refused-verdicts (intervalRefusal (s .args .market .resources) (lent s)) (verdictsOf (s .args .market) (lent s)) e)))
 
 loop-holds : tie.Need-loop-holds Inv-loop μ-loop
 unfolding padded listed
-loop-holds c = (omega arith, rw (c .before .before .before .before .before .not-binding .ensures))
+loop-holds c = (omega arith, rw (c .before .before .before .before .before .before .not-binding .ensures))
 
 mul-judge : tie.Need-mul-judge Inv-loop μ-loop
 mul-judge c = omega (arith, few c)
@@ -77,9 +77,9 @@ element-copy-out-judge c = omega (arith, few c)
 
 judge-requires : tie.Need-judge-requires Inv-loop μ-loop
 judge-requires c κs =
-    let l = c .before .before .before in
+    let l = c .before .before .before .before in
     let i = limits (l .before .before) in
-    let s = l .before .before .before .before .before .before .before .before in
+    let s = l .before .before .before .before .before .before .before .before .before in
     let e : s .args .market .resources ≡ s .args .resources = sym (i .count) in
     rw e (record {
       few = i .few;
@@ -91,10 +91,10 @@ judge-requires c κs =
     })
 
 mul-verdicts : tie.Need-mul-verdicts Inv-loop μ-loop
-mul-verdicts c = omega (arith, few (c .before .before .before .before))
+mul-verdicts c = omega (arith, few (c .before .before .before .before .before))
 
 array-set-from-verdicts : tie.Need-array-set-from-verdicts Inv-loop μ-loop
-array-set-from-verdicts c = omega (arith, few (c .before .before .before .before))
+array-set-from-verdicts c = omega (arith, few (c .before .before .before .before .before))
 
 add-c : tie.Need-add-c Inv-loop μ-loop
 add-c c = search needs
@@ -104,10 +104,10 @@ loop-less c = search needs
 
 loop-again : tie.Need-loop-again Inv-loop μ-loop
 loop-again c =
-    let j = c .before .before .before in
+    let j = c .before .before .before .before in
     let l = j .before in
     let a = l .before in
-    let s = a .before .before .before .before .before .before .before in
+    let s = a .before .before .before .before .before .before .before .before in
     let f = came (cell (s .args .shadow .now) (a .loop .c)) (j .judge-arg .given) in
     (omega arith, rw (a .loop .inv .1, simp f at (c .judge .ensures), add-one) (padded-next 32 notBinding (λ k. verdictOf (pathIn (s .args .market) (lent s) k)) (a .loop .c) (few l)))
 
@@ -115,7 +115,7 @@ returns-2 : tie.Need-returns-2 Inv-loop μ-loop
 unfolding judgedVerdicts verdictsOf
 returns-2 c =
     let a = c .before in
-    let s = a .before .before .before .before .before .before .before in
+    let s = a .before .before .before .before .before .before .before .before in
     let n : a .loop .c ≡ s .args .constraints = omega arith in
     (checked-is (a .before .before .before), a .loop .inv .1 ∙ rw (passed (a .before), n))
 

@@ -1,47 +1,67 @@
 -- `run::put_curves` meets its contract. Assumes nothing.
-use Rattle.rules_page.specs.Pages.{curveText, curveRoom}
-use native.Mathlib.Omega.{arith}
-use Rattle.rules_run.proofs.RunLaws.{put-to, put-full}
 use borrow.Author.Needs.{needs}
+use mathlib.Core.Path.{refl, sym, ap, _∙_}
+use mathlib.Core.List.{[], append-nil}
+use native.Mathlib.Omega.{arith}
+use lib.ListN.{length}
+use lib.Seq.{length-sets}
+use Rattle.rules_page.specs.Pages.{curveNames, curveTable, curveText}
+use Rattle.rules_state.specs.States.{marketIn, rowsIn, standingIn}
+use Rattle.page.proofs.PageLaws.{putting-start, putting-next, putting-done}
+use Rattle.run.proofs.KeptLaws.{kept-past}
 use Rattle.run.proofs.put_curves.Statement.{statement}
 use Rattle.run.proofs.put_curves.Tie as tie
 
-print-curves-requires : tie.Need-print-curves-requires
-print-curves-requires c κs = search needs
+slice-aggregate-put-names : tie.Need-slice-aggregate-put-names
+slice-aggregate-put-names c = search needs
 
-enum-known-next : tie.Need-enum-known-next
-enum-known-next c = search needs
+put-names-requires : tie.Need-put-names-requires
+put-names-requires c κs = search needs
 
-enum-told : tie.Need-enum-told
-enum-told c = search needs
+put-table-requires : tie.Need-put-table-requires
+put-table-requires c κs =
+    let n = c .before .before .before .before .before .before in
+    let s = n .before .before .before .before .before .before in
+    let e = n .put-names .ensures in
+    let long = ap length (e .0) ∙ length-sets (s .args .out .now) (s .args .at) curveNames in
+    ((omega (arith, s .pre .0 .0, e .1, long), (s .pre .0 .1 .0, s .pre .0 .1 .1)), (s .pre .1 .0, kept-past (s .pre .1 .1) curveNames (n .put-names .last .0) (n .put-names .result) (e .0) (omega (arith, e .1))))
 
 same-length : tie.Need-same-length
 same-length c = search needs
 
-returns : tie.Need-returns
-returns c =
-    let p = c .before .before .before .before .before in
-    let a = p .before .before .before .args in
-    let g = put-to curveRoom (a .out .now) (a .at) (curveText (a .i) (a .resources) (a .rows) (a .floors)) (p .print-curves .last .0) (p .print-curves .result) (p .before .before .before .pre) (p .print-curves .ensures .0) (p .print-curves .ensures .1 .0) (c .before .next .given .0 .0) (c .before .next .given .1) in
-    (g .0, (g .1, omega (arith, g .1, p .print-curves .ensures .1 .1 (p .before .before .before .pre))))
-
 same-length-2 : tie.Need-same-length-2
 same-length-2 c = search needs
 
-returns-2 : tie.Need-returns-2
-returns-2 c =
-    let p = c .before .before .before .before in
-    let a = p .before .before .before .args in
-    put-full curveRoom (a .out .now) (a .at) (curveText (a .i) (a .resources) (a .rows) (a .floors)) (p .print-curves .last .0) (p .print-curves .result) (p .before .before .before .pre) (p .print-curves .ensures .0) (p .print-curves .ensures .1 .0) (c .enum-told .given .1)
+same-length-3 : tie.Need-same-length-3
+same-length-3 c = search needs
+
+same-length-4 : tie.Need-same-length-4
+same-length-4 c = search needs
+
+returns : tie.Need-returns
+unfolding curveText
+returns c =
+    let t = c .before .before .before .before .before .before .before in
+    let n = t .before .before .before .before .before .before .before in
+    let s = n .before .before .before .before .before .before in
+    let a = s .args in
+    let e = n .put-names .ensures in
+    let table = curveTable (a .i) (marketIn (a .state .now) .resources) (rowsIn (a .state .now)) (standingIn (a .state .now) .floors) in
+    let text = curveText (a .i) (marketIn (a .state .now) .resources) (rowsIn (a .state .now)) (standingIn (a .state .now) .floors) in
+    let named = putting-next (putting-start (a .out .now) (a .at) text) curveNames table (n .put-names .last .0) (n .put-names .result) refl (e .0) (e .1) in
+    let p = t .put-table .ensures .0 in
+    let d = putting-done (putting-next named table [] (t .put-table .last .0) (t .put-table .result) (sym (append-nil table)) (p .buffer) (p .next)) refl in
+    (record { buffer = d .0; next = d .1; few = omega (arith, p .few, e .1) }, t .put-table .ensures .1)
 
 pub put-curves-spec : {M : Type 1} → statement M
 put-curves-spec =
     tie.close
     (tie.spec
-    print-curves-requires
-    enum-known-next
-    enum-told
+    slice-aggregate-put-names
+    put-names-requires
+    put-table-requires
     same-length
-    returns
     same-length-2
-    returns-2)
+    same-length-3
+    same-length-4
+    returns)

@@ -1,0 +1,5 @@
+-- Laws that the proofs of the code use.
+pub mod FewFactors
+pub mod ReadLaws
+pub mod IntervalLaws
+pub mod PartLaws

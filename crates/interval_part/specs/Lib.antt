@@ -1,0 +1,3 @@
+-- Definitions that the contracts of the crate cite.
+pub mod Shown
+pub mod Taken

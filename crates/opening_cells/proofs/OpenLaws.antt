@@ -1,0 +1,196 @@
+-- Laws of an opening in numbers: its checks and its market read from the numbers themselves, and the rows put so far. Assumes nothing.
+use mathlib.Core.Bool.{Bool, true, false, _&&_}
+use mathlib.Core.List.{List, [], _∷_, _++_, map, flatMap, append-assoc, append-nil}
+use mathlib.Core.Logic.{⊎-elim}
+use mathlib.Core.Path.{_≡_, refl, sym, ap, ap₂, _∙_}
+use Prim.Native.Nat.{ℕ, zero, suc, _+_, _*_, _-_, _≤_, _<_}
+use native.Mathlib.Nat.{add-zero}
+use native.Mathlib.Numerals.{add-one}
+use native.Mathlib.Omega.{arith}
+use lib.IntN.{ℤ, pos}
+use lib.ListN.{length, set, replicate, getD, length-append, length-map, length-replicate}
+use lib.Seq.{sets}
+use Rattle.rules_number.specs.Order.{natOf}
+use Rattle.rules_number.specs.Over.{allTo, listed, padded}
+use Rattle.rules_number.proofs.OverLaws.{all-same, last-or-before, listed-at, listed-length, listed-same, padded-length}
+use Rattle.rules_curve.specs.Refusals.{_then_, eachTo}
+use Rattle.rules_interval.specs.Intervals.{cell}
+use Rattle.rules_path.specs.declared.Market.{Market}
+use Rattle.rules_opening.specs.Openings.{noResource, resourceAt, sellerAt, isMark, isKnown, sellersGood, ownersGood, marketOf}
+use Rattle.rules_opening.specs.declared.Opening.{Opening}
+use Rattle.rules_opening.specs.declared.Row.{Row}
+use Rattle.rules_hour.specs.Hours.{freshStanding}
+use Rattle.rules_pass.specs.Passes.{freshQuarter}
+use Rattle.rules_text.proofs.ListLaws.{sets-append}
+use Rattle.rules_library.specs.Slices.{cellAt}
+use Rattle.rules_state.specs.Layout.{mostResources, mostPortfolios, marketFrom, rowsFrom, rowRoom, blockRoom}
+use Rattle.rules_state.specs.Openings.{blockOf, resourceIn, openingIn}
+use Rattle.rules_state.specs.OpenedInto.{openTo}
+use Rattle.rules_state.specs.States.{rowFrom, cellOf, floorsCells, standingCells, quarterCells, marketCells, rowCells}
+use Rattle.rules_state.specs.Takes.{ifAccepted}
+use Rattle.market_puts.proofs.CurveLaws.{market-put}
+use Rattle.opening.proofs.OpeningLaws.{each-stops}
+
+-- ---- a list and its padding, as cells
+pub map-append : {A B : Type 0} (f : A → B) (k l : List A) → map f (k ++ l) ≡ map f k ++ map f l
+map-append f [] l = refl
+map-append f (x ∷ k) l = ap (λ (r : List _). f x ∷ r) (map-append f k l)
+
+pub map-listed : {A B : Type 0} (f : A → B) (g : ℕ → A) (n : ℕ) → map f (listed g n) ≡ listed (λ k. f (g k)) n
+unfolding listed
+map-listed f g zero = refl
+map-listed f g (suc n) = map-append f (listed g n) (g n ∷ []) ∙ ap (λ (l : List _). l ++ (f (g n) ∷ [])) (map-listed f g n)
+
+cons-listed : {A : Type 0} (b : A) (n : ℕ) → b ∷ listed (λ k. b) n ≡ listed (λ k. b) (suc n)
+unfolding listed
+cons-listed b zero = refl
+cons-listed b (suc n) = ap (λ (l : List _). l ++ (b ∷ [])) (cons-listed b n)
+
+pub map-blank : {A B : Type 0} (f : A → B) (b : A) (n : ℕ) → map f (replicate n b) ≡ listed (λ k. f b) n
+unfolding listed
+map-blank f b zero = refl
+map-blank f b (suc n) = ap (λ (l : List _). f b ∷ l) (map-blank f b n) ∙ cons-listed (f b) n
+
+pub padded-cells : (g : ℕ → ℕ) (n room : ℕ) → map cellOf (padded room 0 (listed g n)) ≡ listed (λ k. cellOf (g k)) n ++ listed (λ k. pos 0) (room - n)
+unfolding padded
+padded-cells g n room =
+    map-append cellOf (listed g n) (replicate (room - length (listed g n)) 0)
+    ∙ ap₂ (λ (a b : List ℤ). a ++ b) (map-listed cellOf g n) (map-blank cellOf 0 (room - length (listed g n)) ∙ ap (λ (i : ℕ). listed (λ (k : ℕ). pos 0) (room - i)) (listed-length g n))
+
+-- numbers put one after the other, and zeros after them
+pub padded-put : (s mid out : List ℤ) (at : ℕ) (g : ℕ → ℕ) (n room : ℕ) → mid ≡ sets s at (listed (λ k. cellOf (g k)) n) → out ≡ sets mid (at + n) (listed (λ k. pos 0) (room - n))
+    → out ≡ sets s at (map cellOf (padded room 0 (listed g n)))
+padded-put s mid out at g n room e f =
+    let put = listed (λ k. cellOf (g k)) n in
+    let zeros = listed (λ (k : ℕ). pos 0) (room - n) in
+    f ∙ ap (λ (l : List ℤ). sets l (at + n) zeros) e ∙ ap (λ (i : ℕ). sets (sets s at put) (at + i) zeros) (sym (listed-length (λ k. cellOf (g k)) n)) ∙ sym (sets-append s at put zeros)
+    ∙ ap (λ (l : List ℤ). sets s at l) (sym (padded-cells g n room))
+
+-- ---- a fresh standing and a fresh quarter hour are zeros
+pub fresh-zeros : standingCells freshStanding ++ quarterCells freshQuarter ≡ listed (λ k. pos 0) marketFrom
+unfolding listed floorsCells freshStanding freshQuarter
+fresh-zeros = refl
+
+-- ---- the opening that these numbers stand for
+module _ (month : ℤ) (portfolios : ℕ) (sellers : List ℤ) (resources : ℕ) (blocks : List ℤ) where
+  abbrev pub O : Opening
+  O = openingIn month portfolios sellers resources blocks
+
+  pub resource-is : (r : ℕ) → r < mostResources → resourceAt O r ≡ resourceIn (blockOf blocks r)
+  unfolding openingIn
+  resource-is r h = listed-at (λ r. resourceIn (blockOf blocks r)) noResource mostResources r h
+
+  pub owner-is : (r : ℕ) → r < mostResources → resourceAt O r .portfolio ≡ cellAt blocks (blockRoom * r)
+  unfolding resourceIn blockOf
+  owner-is r h =
+      ap (λ x. x .portfolio) (resource-is r h) ∙ listed-at (λ k. cellAt blocks (blockRoom * r + k)) (pos 0) blockRoom 0 (omega arith) ∙ ap (λ (i : ℕ). cellAt blocks i) (add-zero (blockRoom * r))
+
+  pub seller-is : (p : ℕ) → p < mostPortfolios → sellerAt O p ≡ cellAt sellers p
+  unfolding openingIn
+  seller-is p h = listed-at (cellAt sellers) (pos 0) mostPortfolios p h
+
+  pub sellers-are : portfolios ≤ mostPortfolios → allTo (λ p. isMark (cell sellers p)) portfolios ≡ sellersGood O
+  unfolding sellersGood openingIn
+  sellers-are few = all-same (λ p. isMark (cell sellers p)) (λ p. isMark (sellerAt O p)) portfolios (λ p h. ap isMark (sym (seller-is p (omega arith))))
+
+  pub owners-are : resources ≤ mostResources → allTo (λ r. isKnown portfolios (cellAt blocks (blockRoom * r))) resources ≡ ownersGood O
+  unfolding ownersGood openingIn
+  owners-are few =
+      all-same (λ r. isKnown portfolios (cellAt blocks (blockRoom * r))) (λ r. isKnown portfolios (resourceAt O r .portfolio)) resources
+      (λ r h. ap (isKnown portfolios) (sym (owner-is r (omega arith))))
+
+  -- ---- the market
+  pub resources-room : resources ≤ mostResources → length (marketOf O .portfolio) ≡ mostResources
+  unfolding marketOf openingIn
+  resources-room few = padded-length mostResources 0 (listed (λ r. natOf (resourceAt O r .portfolio)) resources) (omega (arith, listed-length (λ r. natOf (resourceAt O r .portfolio)) resources))
+
+  pub portfolios-room : portfolios ≤ mostPortfolios → length (marketOf O .seller) ≡ mostPortfolios
+  unfolding marketOf openingIn
+  portfolios-room few = padded-length mostPortfolios 0 (listed (λ p. natOf (sellerAt O p)) portfolios) (omega (arith, listed-length (λ p. natOf (sellerAt O p)) portfolios))
+
+  portfolios-are : resources ≤ mostResources → padded mostResources 0 (listed (λ k. natOf (cellAt blocks (blockRoom * k))) resources) ≡ marketOf O .portfolio
+  unfolding marketOf openingIn
+  portfolios-are few =
+      ap (padded mostResources 0) (listed-same (λ k. natOf (cellAt blocks (blockRoom * k))) (λ r. natOf (resourceAt O r .portfolio)) resources (λ r h. ap natOf (sym (owner-is r (omega arith)))))
+
+  marks-are : portfolios ≤ mostPortfolios → padded mostPortfolios 0 (listed (λ k. natOf (cellAt sellers (1 * k))) portfolios) ≡ marketOf O .seller
+  unfolding marketOf openingIn
+  marks-are few =
+      ap (padded mostPortfolios 0) (listed-same (λ k. natOf (cellAt sellers (1 * k))) (λ p. natOf (sellerAt O p)) portfolios
+      (λ p h. let e : 1 * p ≡ p = omega arith in ap (λ (i : ℕ). natOf (cellAt sellers i)) e ∙ ap natOf (sym (seller-is p (omega arith)))))
+
+  count-is : marketOf O .resources ≡ resources
+  unfolding marketOf openingIn
+  count-is = refl
+
+  -- no market depends on the month
+  pub any-month : marketOf (openingIn (pos 0) portfolios sellers resources blocks) ≡ marketOf O
+  unfolding marketOf openingIn
+  any-month = refl
+
+-- zeros, and the market after them
+fresh-put : (m : Market) (s cleared out : List ℤ) → cleared ≡ sets s 0 (listed (λ k. pos 0) marketFrom) → out ≡ sets cleared marketFrom (marketCells m)
+    → out ≡ sets s 0 (standingCells freshStanding ++ quarterCells freshQuarter ++ marketCells m)
+unfolding listed
+fresh-put m s cleared out e f =
+    let zeros = listed (λ (k : ℕ). pos 0) marketFrom in
+    f ∙ ap (λ (l : List ℤ). sets l marketFrom (marketCells m)) e ∙ ap (λ (i : ℕ). sets (sets s 0 zeros) i (marketCells m)) (sym (listed-length (λ (k : ℕ). pos 0) marketFrom))
+    ∙ sym (sets-append s 0 zeros (marketCells m)) ∙ ap (λ (l : List ℤ). sets s 0 (l ++ marketCells m)) (sym fresh-zeros)
+
+-- zeros, the number of resources, the portfolios and then the sellers
+module _ (month : ℤ) (portfolios : ℕ) (sellers : List ℤ) (resources : ℕ) (blocks : List ℤ) (many : resources ≤ mostResources) (few : portfolios ≤ mostPortfolios) where
+  pub fresh-made : (s cleared counted owned out : List ℤ) → cleared ≡ sets s 0 (listed (λ k. pos 0) marketFrom) → counted ≡ set cleared marketFrom (cellOf resources)
+      → owned ≡ sets counted (marketFrom + 1) (map cellOf (padded mostResources 0 (listed (λ k. natOf (cellAt blocks (blockRoom * k))) resources)))
+      → out ≡ sets owned (marketFrom + 1 + mostResources) (map cellOf (padded mostPortfolios 0 (listed (λ k. natOf (cellAt sellers (1 * k))) portfolios)))
+      → out ≡ sets s 0 (standingCells freshStanding ++ quarterCells freshQuarter ++ marketCells (marketOf (openingIn month portfolios sellers resources blocks)))
+  fresh-made s cleared counted owned out a b c d =
+      let m = marketOf (openingIn month portfolios sellers resources blocks) in
+      let b' : counted ≡ set cleared marketFrom (cellOf (m .resources)) = b ∙ ap (λ (n : ℕ). set cleared marketFrom (cellOf n)) (sym (count-is month portfolios sellers resources blocks)) in
+      let c' : owned ≡ sets counted (marketFrom + 1) (map cellOf (m .portfolio)) =
+      c ∙ ap (λ (l : List ℕ). sets counted (marketFrom + 1) (map cellOf l)) (portfolios-are month portfolios sellers resources blocks many) in
+      let d' : out ≡ sets owned (marketFrom + 1 + mostResources) (map cellOf (m .seller)) =
+      d ∙ ap (λ (l : List ℕ). sets owned (marketFrom + 1 + mostResources) (map cellOf l)) (marks-are month portfolios sellers resources blocks few) in
+      fresh-put m s cleared out a (market-put m cleared counted owned out (resources-room month portfolios sellers resources blocks many) b' c' d')
+
+-- ---- how many come before the first refused one
+pub skipped : {A : Type 0} (n : ℕ) (x y : A) → 0 < n → ifAccepted n x y ≡ y
+skipped zero x y h = absurd (omega arith)
+skipped (suc n) x y h = refl
+
+pub taken : {A : Type 0} (n : ℕ) (x y : A) → n ≡ 0 → ifAccepted n x y ≡ x
+taken n x y e = rw e
+
+module _ (f : ℕ → ℕ) where
+  pub open-all : (n : ℕ) → eachTo f n ≡ 0 → openTo f n ≡ n
+  unfolding openTo
+  open-all zero e = refl
+  open-all (suc n) e = rw e
+
+  pub open-stops : (n i : ℕ) → i < n → eachTo f i ≡ 0 → 0 < f i → openTo f n ≡ i
+  unfolding openTo
+  open-stops zero i l a h = absurd (omega arith)
+  open-stops (suc n) i l a h =
+      skipped (eachTo f (suc n)) (suc n) (openTo f n) (rw (each-stops f (suc n) i l a h) h)
+      ∙ ⊎-elim (λ e. open-all n (rw (← e) a) ∙ sym e) (λ k. open-stops n i k a h) (last-or-before i n l)
+
+-- ---- rows put one after the other
+flat-last : {A B : Type 0} (f : A → List B) (l : List A) (x : A) → flatMap f (l ++ (x ∷ [])) ≡ flatMap f l ++ f x
+unfolding flatMap
+flat-last f [] x = append-nil (f x)
+flat-last f (y ∷ l) x = ap (λ (r : List _). f y ++ r) (flat-last f l x) ∙ sym (append-assoc (f y) (flatMap f l) (f x))
+
+module _ (row : ℕ → Row) (s : List ℤ) where
+  abbrev pub rowsTo : ℕ → List ℤ
+  rowsTo n = flatMap rowCells (listed row n)
+
+  rows-next : (r : ℕ) → rowsTo (r + 1) ≡ rowsTo r ++ rowCells (row r)
+  unfolding listed
+  rows-next r = rw (add-one r) (flat-last rowCells (listed row r) (row r))
+
+  pub rows-length : (r : ℕ) → length (rowsTo r) ≡ rowRoom * r → length (rowCells (row r)) ≡ rowRoom → length (rowsTo (r + 1)) ≡ rowRoom * (r + 1)
+  rows-length r e g = ap length (rows-next r) ∙ length-append (rowsTo r) (rowCells (row r)) ∙ omega arith
+
+  pub rows-put : (out next : List ℤ) (r : ℕ) → out ≡ sets s rowsFrom (rowsTo r) → length (rowsTo r) ≡ rowRoom * r → next ≡ sets out (rowFrom r) (rowCells (row r)) → next ≡ sets s rowsFrom (rowsTo (r + 1))
+  rows-put out next r e g n =
+      n ∙ ap (λ (l : List ℤ). sets l (rowFrom r) (rowCells (row r))) e ∙ ap (λ (i : ℕ). sets (sets s rowsFrom (rowsTo r)) (rowsFrom + i) (rowCells (row r))) (sym g)
+      ∙ sym (sets-append s rowsFrom (rowsTo r) (rowCells (row r))) ∙ ap (λ (l : List ℤ). sets s rowsFrom l) (sym (rows-next r))

@@ -1,0 +1,35 @@
+-- `opening_cells::put_padded` meets its contract. Assumes nothing.
+use Prim.Native.Nat.{_*_}
+use native.Mathlib.Omega.{arith}
+use borrow.Author.Needs.{needs}
+use Rattle.rules_number.specs.Order.{natOf}
+use Rattle.rules_library.specs.Slices.{cellAt}
+use Rattle.opening_cells.proofs.OpenLaws.{padded-put}
+use Rattle.opening_cells.proofs.put_padded.Statement.{statement}
+use Rattle.opening_cells.proofs.put_padded.Tie as tie
+
+put-each-requires : tie.Need-put-each-requires
+put-each-requires c κs = search needs
+
+add-clear : tie.Need-add-clear
+add-clear c = search needs
+
+sub-clear : tie.Need-sub-clear
+sub-clear c = search needs
+
+clear-requires : tie.Need-clear-requires
+clear-requires c κs = omega arith
+
+same-length : tie.Need-same-length
+same-length c = search needs
+
+returns : tie.Need-returns
+returns c =
+    let q = c .before in
+    let p = q .before .before .before in
+    let a = p .before .before .args in
+    padded-put (a .state .now) _ _ (a .at) (λ k. natOf (cellAt (a .numbers .now) (a .width * k))) (a .n) (a .room) (p .put-each .ensures) (q .clear .ensures)
+
+pub put-padded-spec : {M : Type 1} → statement M
+put-padded-spec =
+    tie.close (tie.spec put-each-requires add-clear sub-clear clear-requires same-length returns)

@@ -1,0 +1,155 @@
+-- Laws of the part that opens an hour: its first three tables, before the last three. Assumes nothing.
+use Prim.Native.Nat.{ℕ, _+_, _*_, _-_, _≤_, min}
+use mathlib.Core.Path.{_≡_, refl, sym, ap, _∙_}
+use mathlib.Core.List.{List, map}
+use mathlib.Core.Option.{none, some}
+use mathlib.Core.Bool.{true}
+use native.Mathlib.Omega.{arith}
+use lib.IntN.{ℤ, pos}
+use lib.ListN.{length, drop, replicate}
+use lib.Seq.{sets}
+use Rattle.rules_opening.specs.Openings.{openingRefusal}
+use Rattle.rules_opening.specs.declared.Opening.{Opening}
+use Rattle.rules_text.specs.Numbers.{Line, Row, bytes, lines, row}
+use Rattle.rules_text.specs.Tables.{Reading, Reader, faulty, found, next, _▷_, headed, due, single, one, ifSuits, cell, hasId, rows, counting, counted}
+use Rattle.rules_text.specs.Offsets.{namesAt, kept, bytesOf}
+use Rattle.rules_text.specs.declared.Found.the-variants.{At, Nothing}
+use Rattle.rules_text.proofs.LineLaws.{line, lines-after, lines-some, next-lines}
+use Rattle.rules_text.proofs.NameLaws.{not-headed, past-names}
+use Rattle.rules_text.proofs.StageLaws.{Stage, names-few, run-few, table}
+use Rattle.rules_text.proofs.TableLaws.{row-there, due-none, due-some}
+use Rattle.rules_text.proofs.UsedLaws.{used-names, used-line, used-then, Rises, rises-found, rises-then, rises-headed}
+use Rattle.rules_parts.specs.Parts.{openingOf, readOpening}
+use Rattle.rules_state.specs.Layout.{blockRoom}
+use Rattle.rules_state.specs.Openings.{openingIn}
+use Rattle.text_blocks.specs.Blocks.{ownerCells, ownerRows, blocksPut, blocksOf, lastThree, openingWith}
+use Rattle.opening_part.specs.Parts.{lastFour, partBy, partAnswer, partState, linesAfter, Opened}
+use Rattle.opening_part.specs.declared.PartOpened.{PartOpened}
+use Rattle.text_blocks.proofs.LongLaws.{last-same, rises-last}
+use Rattle.text_blocks.proofs.OpeningLaws.{blocks-decode, with-is}
+
+-- ---- the last three tables, put into zeros after portfolios and starts
+pub blocks-open : (month : ℤ) (portfolios : ℕ) (sellers : List ℤ) (m : ℕ) (portfolio start : List ℤ) (room : ℕ) → blockRoom * min m 64 ≤ room
+    → (month' : ℤ) → month' ≡ month → (l : List ℤ) → l ≡ blocksPut ownerCells 0 0 (replicate room (pos 0)) (ownerRows portfolio start (min m 64)) → (n : ℕ) (ls : List Line)
+    → lastThree m (λ steps points costs. openingIn month' portfolios sellers m (blocksOf l steps points costs)) n ls ≡ lastThree m (openingWith month portfolios sellers m portfolio start) n ls
+blocks-open month portfolios sellers m portfolio start room fits month' em l el n ls =
+    last-same m (λ steps points costs. openingIn month' portfolios sellers m (blocksOf l steps points costs)) (openingWith month portfolios sellers m portfolio start)
+    (λ steps points costs a b c. ap (λ (z : ℤ). openingIn z portfolios sellers m (blocksOf l steps points costs)) em
+    ∙ ap (λ (k : List ℤ). openingIn month portfolios sellers m (blocksOf k steps points costs)) el
+    ∙ blocks-decode month portfolios sellers m portfolio start room fits steps points costs a b c) n ls
+
+-- ---- the resources
+module _ (month : ℤ) (portfolios : ℕ) (sellers : List ℤ) (s : List ℕ) (n at : ℕ) where
+  pub unnamed-four : Nothing ≡ namesAt s at (bytes "resource portfolio start\n") → lastFour month portfolios sellers n (lines (drop at s)) ≡ faulty (n + 1)
+  unnamed-four e =
+      ap (λ (r : Reading (List Row)). next r (λ rr. lastThree (length rr) (openingWith month portfolios sellers (length rr) (kept 64 (pos 0) (map (cell 1) rr)) (kept 64 (pos 0) (map (cell 2) rr)))))
+      (not-headed "resource portfolio start\n" (counted 3) n s at refl e)
+
+  pub past-four : (rr : List Row) (n' at' : ℕ) → Stage (headed "resource portfolio start\n" (counted 3)) s n at rr n' at' → (m : ℕ) → m ≡ length rr
+      → (portfolio start : List ℤ) → portfolio ≡ sets (replicate 64 (pos 0)) 0 (map (cell 1) rr) → start ≡ sets (replicate 64 (pos 0)) 0 (map (cell 2) rr) → (month' : ℤ) → month' ≡ month
+      → lastThree m (openingWith month' portfolios sellers m portfolio start) n' (lines (drop at' s)) ≡ lastFour month portfolios sellers n (lines (drop at s))
+  unfolding kept
+  past-four rr n' at' g m em portfolio start ep es month' eh =
+      ap (λ (z : ℤ). lastThree m (openingWith z portfolios sellers m portfolio start) n' (lines (drop at' s))) eh
+      ∙ ap (λ (l : List ℤ). lastThree m (openingWith month portfolios sellers m l start) n' (lines (drop at' s))) ep
+      ∙ ap (λ (l : List ℤ). lastThree m (openingWith month portfolios sellers m (kept 64 (pos 0) (map (cell 1) rr)) l) n' (lines (drop at' s))) es
+      ∙ ap (λ (k : ℕ). lastThree k (openingWith month portfolios sellers k (kept 64 (pos 0) (map (cell 1) rr)) (kept 64 (pos 0) (map (cell 2) rr))) n' (lines (drop at' s))) em
+      ∙ sym (ap (λ (r : Reading (List Row)). next r (λ xs. lastThree (length xs) (openingWith month portfolios sellers (length xs) (kept 64 (pos 0) (map (cell 1) xs)) (kept 64 (pos 0) (map (cell 2) xs))))) (g .is))
+
+pub rises-counted : (k n : ℕ) (ls : List Line) → Rises n (counted k n ls)
+unfolding counted rows
+rises-counted k n ls a j rest e = omega (arith, rises-found (counting k ls) (n + length (counting k ls)) (drop (length (counting k ls)) ls) a j rest e)
+
+pub rises-four : (month : ℤ) (portfolios : ℕ) (sellers : List ℤ) (n : ℕ) (ls : List Line) → Rises n (lastFour month portfolios sellers n ls)
+rises-four month portfolios sellers n ls =
+    rises-then n (headed "resource portfolio start\n" (counted 3) n ls) _ (rises-headed "resource portfolio start\n" (counted 3) (rises-counted 3) n ls)
+    (λ rr k rest. rises-last (length rr) (openingWith month portfolios sellers (length rr) (kept 64 (pos 0) (map (cell 1) rr)) (kept 64 (pos 0) (map (cell 2) rr))) k rest)
+
+-- a table of lines that count up by one
+module _ (s : List ℕ) (n at q count at' : ℕ) where
+  pub portfolio-stage : At q ≡ namesAt s at (bytes "portfolio seller\n") → count ≡ length (counting 2 (lines (drop q s))) → at' ≡ q + bytesOf count (lines (drop q s))
+      → Stage (headed "portfolio seller\n" (counted 2)) s n at (counting 2 (lines (drop q s))) (n + 1 + count) at'
+  unfolding counted
+  portfolio-stage e = table "portfolio seller\n" (counting 2) refl (run-few 2 hasId _ 0) s n at q e count at'
+
+  pub owner-stage : At q ≡ namesAt s at (bytes "resource portfolio start\n") → count ≡ length (counting 3 (lines (drop q s))) → at' ≡ q + bytesOf count (lines (drop q s))
+      → Stage (headed "resource portfolio start\n" (counted 3)) s n at (counting 3 (lines (drop q s))) (n + 1 + count) at'
+  unfolding counted
+  owner-stage e = table "resource portfolio start\n" (counting 3) refl (run-few 3 hasId _ 0) s n at q e count at'
+
+-- ---- month and portfolios
+abbrev ownersThen : ℤ → List Row → Reader Opening
+ownersThen month pr = headed "resource portfolio start\n" (counted 3) ▷ λ rr. lastThree (length rr) (openingOf month pr rr)
+
+abbrev marksThen : ℤ → Reader Opening
+marksThen month = headed "portfolio seller\n" (counted 2) ▷ λ pr. ownersThen month pr
+
+opening-is : (n : ℕ) (ls : List Line) → readOpening n ls ≡ next (headed "month\n" (due single) n ls) marksThen
+unfolding readOpening
+opening-is n ls = refl
+
+next-each : {A B : Type 0} (r : Reading A) (f g : A → Reader B) → ((a : A) (n : ℕ) (ls : List Line) → f a n ls ≡ g a n ls) → next r f ≡ next r g
+next-each (faulty k) f g e = refl
+next-each (found a n ls) f g e = e a n ls
+
+four-is : (month : ℤ) (pr : List Row) (n : ℕ) (ls : List Line) → lastFour month (length pr) (kept 16 (pos 0) (map (cell 1) pr)) n ls ≡ ownersThen month pr n ls
+four-is month pr n ls =
+    next-each (headed "resource portfolio start\n" (counted 3) n ls) _ _
+    (λ rr k rest. last-same (length rr) (openingWith month (length pr) (kept 16 (pos 0) (map (cell 1) pr)) (length rr) (kept 64 (pos 0) (map (cell 1) rr)) (kept 64 (pos 0) (map (cell 2) rr))) (openingOf month pr rr)
+    (with-is rr month pr) k rest)
+
+module _ (s : List ℕ) (n at : ℕ) where
+  pub unnamed-month : Nothing ≡ namesAt s at (bytes "month\n") → readOpening n (lines (drop at s)) ≡ faulty (n + 1)
+  unnamed-month e = opening-is n (lines (drop at s)) ∙ ap (λ (r : Reading ℤ). next r marksThen) (not-headed "month\n" (due single) n s at refl e)
+
+  module _ (q : ℕ) (e : At q ≡ namesAt s at (bytes "month\n")) where
+    pub no-month : row 1 (line (drop q s)) ≡ none → readOpening n (lines (drop at s)) ≡ faulty (n + 1 + 1)
+    unfolding single
+    no-month m =
+        opening-is n (lines (drop at s))
+        ∙ ap (λ (x : Reading ℤ). next x marksThen) (past-names "month\n" (due single) n s at refl q e ∙ due-none single (n + 1) (drop q s) (ap one m))
+
+    pub month-stage : (x : Row) → row 1 (line (drop q s)) ≡ some x → (at1 : ℕ) → at1 ≡ q + length (line (drop q s)) → Stage (headed "month\n" (due single)) s n at (cell 0 x) (n + 1 + 1) at1
+    unfolding single
+    month-stage x m at1 a =
+        let there = row-there (λ y. true) 0 x (drop q s) (ap (ifSuits (λ y. true)) m) in
+        let after = lines-after (drop q s) ∙ sym (next-lines s q at1 a) in
+        let z = ap length (lines-some (drop q s) there) in
+        let y = ap length after in
+        let g = names-few "month\n" s at refl q e in
+        record {
+          is = past-names "month\n" (due single) n s at refl q e ∙ due-some single (n + 1) (drop q s) (cell 0 x) there (ap one m) ∙ ap (found (cell 0 x) (n + 1 + 1)) after;
+          few = omega arith;
+          used = used-then (used-names "month\n" s n at refl q e) (used-line s (n + 1) q at1 a);
+        }
+
+  module _ (month : ℤ) (n1 at1 : ℕ) (first : Stage (headed "month\n" (due single)) s n at month n1 at1) where
+    read-first : readOpening n (lines (drop at s)) ≡ marksThen month n1 (lines (drop at1 s))
+    read-first = opening-is n (lines (drop at s)) ∙ ap (λ (r : Reading ℤ). next r marksThen) (first .is)
+
+    pub unnamed-portfolios : Nothing ≡ namesAt s at1 (bytes "portfolio seller\n") → readOpening n (lines (drop at s)) ≡ faulty (n1 + 1)
+    unnamed-portfolios e = read-first ∙ ap (λ (r : Reading (List Row)). next r (ownersThen month)) (not-headed "portfolio seller\n" (counted 2) n1 s at1 refl e)
+
+    pub past-portfolios : (pr : List Row) (n2 at2 : ℕ) → Stage (headed "portfolio seller\n" (counted 2)) s n1 at1 pr n2 at2 → (count : ℕ) → count ≡ length pr
+        → (sellers : List ℤ) → sellers ≡ sets (replicate 16 (pos 0)) 0 (map (cell 1) pr) → (month' : ℤ) → month' ≡ month
+        → lastFour month' count sellers n2 (lines (drop at2 s)) ≡ readOpening n (lines (drop at s))
+    unfolding kept
+    past-portfolios pr n2 at2 g count ec sellers es month' em =
+        ap (λ (z : ℤ). lastFour z count sellers n2 (lines (drop at2 s))) em
+        ∙ ap (λ (k : ℕ). lastFour month k sellers n2 (lines (drop at2 s))) ec
+        ∙ ap (λ (l : List ℤ). lastFour month (length pr) l n2 (lines (drop at2 s))) es
+        ∙ four-is month pr n2 (lines (drop at2 s))
+        ∙ sym (read-first ∙ ap (λ (r : Reading (List Row)). next r (ownersThen month)) (g .is))
+
+-- ---- the answer at the beginning of a text
+answer-first : (s : List ℕ) (R : Reading Opening) → partAnswer (λ k. 0 + bytesOf (k - 0) (lines (drop 0 s))) R ≡ partAnswer (λ k. bytesOf k (lines s)) R
+unfolding partAnswer
+answer-first s (faulty line) = refl
+answer-first s (found o k rest) =
+    let z : k - 0 ≡ k = omega arith in
+    let y : 0 + bytesOf k (lines s) ≡ bytesOf k (lines s) = omega arith in
+    ap (λ (i : ℕ). partBy (openingRefusal o) k (0 + bytesOf i (lines s)) (o .resources)) z ∙ ap (λ (i : ℕ). partBy (openingRefusal o) k i (o .resources)) y
+
+pub opened-first : (s : List ℕ) (R : Reading Opening) (b a : List ℤ) (r : PartOpened) → Opened s 0 0 R b a r
+    → (r ≡ partAnswer (λ k. bytesOf k (lines s)) R) × ((a ≡ partState R b) × (r .number ≡ 0 → lines (drop (r .next) s) ≡ linesAfter R))
+opened-first s R b a r o = (o .answer ∙ answer-first s R, (o .state, o .rest))

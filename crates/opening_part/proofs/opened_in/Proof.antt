@@ -1,0 +1,131 @@
+-- `opening_part::opened_in` meets its contract. Assumes nothing.
+use Prim.Native.Nat.{ℕ, _-_}
+use mathlib.Core.Path.{_≡_, sym, ap, _∙_}
+use mathlib.Core.List.{List}
+use borrow.Author.Needs.{needs}
+use lib.IntN.{ℤ}
+use lib.ListN.{drop}
+use Rattle.rules_number.proofs.Kit.{rd, came}
+use Rattle.rules_opening.specs.Openings.{openingRefusal}
+use Rattle.rules_opening.specs.declared.Opening.{Opening}
+use Rattle.rules_text.specs.Numbers.{lines}
+use Rattle.rules_text.specs.Tables.{Reading, found}
+use Rattle.rules_state.specs.OpenedInto.{openedInto}
+use Rattle.rules_state.specs.Openings.{openingIn}
+use Rattle.text_blocks.specs.Blocks.{lastThree, blocksOf, nextAfter}
+use Rattle.opening_part.proofs.OpenedLaws.{opened-fault, opened-refused, opened-accepted, tables-fault, tables-found}
+use Rattle.opening_part.proofs.opened_in.Statement.{statement}
+use Rattle.opening_part.proofs.opened_in.Tie as tie
+
+abbrev begun : tie.After-tables-into → tie.Start
+begun c = c .before .before .before
+
+abbrev put : tie.After-tables-into → List ℤ
+put c = c .tables-into .last .1 .1 .1 .1 .0
+
+-- the opening of such blocks
+abbrev opens : tie.After-tables-into → List ℤ → Opening
+opens c l = let a = begun c .args in openingIn (a .month) (a .portfolios) (a .sellers .now) (a .m) l
+
+abbrev all : tie.After-tables-into → Reading Opening
+all c = let a = begun c .args in lastThree (a .m) (λ steps points costs. opens c (blocksOf (a .blocks .now) steps points costs)) (a .n) (lines (drop (a .at) (a .s .now)))
+
+tables-into-requires : tie.Need-tables-into-requires
+tables-into-requires c κs = search needs
+
+faulty-line-requires : tie.Need-faulty-line-requires
+faulty-line-requires c κs = search needs
+
+same-length : tie.Need-same-length
+same-length c = search needs
+
+returns : tie.Need-returns
+returns c =
+    let t = c .before .before .before in
+    let a = begun t .args in
+    let r = t .tables-into .result in
+    opened-fault (a .s .now) (a .n) (a .at) (all t) (r .fault)
+    (tables-fault (a .s .now) (a .m) (blocksOf (a .blocks .now)) (opens t) (a .n) (lines (drop (a .at) (a .s .now))) (r .fault) (put t) (r .line) (r .next) (t .tables-into .ensures .0) (c .before .if1 .taken))
+    (a .state .now) (c .faulty-line .result) (c .faulty-line .ensures)
+
+open-into-requires : tie.Need-open-into-requires
+open-into-requires c κs = search needs
+
+outcome-number-requires : tie.Need-outcome-number-requires
+outcome-number-requires c κs = search needs
+
+-- ---- the opening
+abbrev reads : tie.After-outcome-number → tie.After-tables-into
+reads c = c .before .before .before .before .before .before .before
+
+month-is : (c : tie.After-outcome-number) → let t = reads c in let a = begun t .args in openingIn (rd (a .month)) (a .portfolios) (a .sellers .now) (a .m) (put t) ≡ opens t (put t)
+month-is c = let t = reads c in let a = begun t .args in ap (λ (z : ℤ). openingIn z (a .portfolios) (a .sellers .now) (a .m) (put t)) (came (a .month) (begun t .fits .month .sfits))
+
+number-is : (c : tie.After-outcome-number) → c .outcome-number .result ≡ openingRefusal (opens (reads c) (put (reads c)))
+number-is c = c .outcome-number .ensures ∙ c .before .before .open-into .ensures .0 ∙ ap openingRefusal (month-is c)
+
+abbrev state : tie.After-outcome-number → List ℤ
+state c = c .before .before .open-into .last .1 .1 .1 .1 .1 .0
+
+state-is : (c : tie.After-outcome-number) → let t = reads c in state c ≡ openedInto (opens t (put t)) (begun t .args .state .now)
+state-is c =
+    let t = reads c in
+    let a = begun t .args in
+    _∙_ {b = openedInto (openingIn (rd (a .month)) (a .portfolios) (a .sellers .now) (a .m) (put t)) (a .state .now)} (c .before .before .open-into .ensures .1) (ap (λ (x : Opening). openedInto x (a .state .now)) (month-is c))
+
+found-is : (c : tie.After-outcome-number)
+    → let t = reads c in
+    let r = t .tables-into .result in
+    all t ≡ found (opens t (put t)) (r .line) (lines (drop (r .next) (begun t .args .s .now)))
+found-is c =
+    let t = reads c in
+    let a = begun t .args in
+    let r = t .tables-into .result in
+    tables-found (a .s .now) (a .m) (blocksOf (a .blocks .now)) (opens t) (a .n) (lines (drop (a .at) (a .s .now))) (r .fault) (put t) (r .line) (r .next) (t .tables-into .ensures .0) (c .before .before .before .before .before .if1 .left)
+
+same-length-2 : tie.Need-same-length-2
+same-length-2 c = search needs
+
+same-length-3 : tie.Need-same-length-3
+same-length-3 c = search needs
+
+returns-2 : tie.Need-returns-2
+returns-2 c =
+    let o = c .before in
+    let t = reads o in
+    let a = begun t .args in
+    let r = t .tables-into .result in
+    opened-refused (a .s .now) (a .n) (a .at) (all t) (opens t (put t)) (r .line) (r .next) (found-is o) (a .state .now) (state o) (state-is o) (o .outcome-number .result) (number-is o) (c .if2 .taken)
+
+same-length-4 : tie.Need-same-length-4
+same-length-4 c = search needs
+
+same-length-5 : tie.Need-same-length-5
+same-length-5 c = search needs
+
+returns-3 : tie.Need-returns-3
+unfolding openingIn
+returns-3 c =
+    let o = c .before in
+    let t = reads o in
+    let a = begun t .args in
+    let r = t .tables-into .result in
+    opened-accepted (a .s .now) (a .n) (a .at) (all t) (opens t (put t)) (r .line) (r .next) (found-is o) (a .state .now) (state o) (state-is o) (sym (number-is o) ∙ c .if2 .left)
+    (_∙_ {b = nextAfter (r .fault) (a .at) (r .line - a .n) (lines (drop (a .at) (a .s .now)))} (t .tables-into .ensures .1) (ap (λ (f : ℕ). nextAfter f (a .at) (r .line - a .n) (lines (drop (a .at) (a .s .now)))) (o .before .before .before .before .before .if1 .left)))
+
+pub opened-in-spec : {M : Type 1} → statement M
+opened-in-spec =
+    tie.close
+    (tie.spec
+    tables-into-requires
+    faulty-line-requires
+    same-length
+    returns
+    open-into-requires
+    outcome-number-requires
+    same-length-2
+    same-length-3
+    returns-2
+    same-length-4
+    same-length-5
+    returns-3)

@@ -1,0 +1,48 @@
+-- `opening_part::opened_large` meets its contract. Assumes nothing.
+use native.Mathlib.Omega.{arith}
+use borrow.Author.Needs.{needs}
+use lib.ListN.{drop}
+use Rattle.rules_number.proofs.Kit.{rd, came}
+use Rattle.rules_text.specs.Numbers.{lines}
+use Rattle.text_blocks.specs.Blocks.{lastThree, openingWith}
+use Rattle.opening_part.proofs.OpenedLaws.{opened-as}
+use Rattle.opening_part.proofs.PartLaws.{blocks-open}
+use Rattle.opening_part.proofs.opened_large.Statement.{statement}
+use Rattle.opening_part.proofs.opened_large.Tie as tie
+
+slice-aggregate-owners-into : tie.Need-slice-aggregate-owners-into
+slice-aggregate-owners-into c = search needs
+
+owners-into-requires : tie.Need-owners-into-requires
+owners-into-requires c κs = search needs
+
+slice-aggregate-opened-in : tie.Need-slice-aggregate-opened-in
+slice-aggregate-opened-in c = search needs
+
+opened-in-requires : tie.Need-opened-in-requires
+opened-in-requires c κs = search needs
+
+same-length : tie.Need-same-length
+same-length c = search needs
+
+returns : tie.Need-returns
+returns c =
+    let d = c .before .before in
+    let w = d .before .before .before .before in
+    let b = w .before .before .before in
+    let a = b .args in
+    let ls = lines (drop (a .at) (a .s .now)) in
+    opened-as (a .s .now) (a .n) (a .at) _ (lastThree (a .m) (openingWith (a .month) (a .portfolios) (a .sellers .now) (a .m) (a .portfolio .now) (a .start .now)) (a .n) ls) (a .state .now) _ (d .opened-in .result)
+    (blocks-open (a .month) (a .portfolios) (a .sellers .now) (a .m) (a .portfolio .now) (a .start .now) 5120 (omega arith) (rd (a .month)) (came (a .month) (b .fits .month .sfits)) (w .owners-into .last .1 .1 .1 .0) (w .owners-into .ensures) (a .n) ls)
+    (d .opened-in .ensures)
+
+pub opened-large-spec : {M : Type 1} → statement M
+opened-large-spec =
+    tie.close
+    (tie.spec
+    slice-aggregate-owners-into
+    owners-into-requires
+    slice-aggregate-opened-in
+    opened-in-requires
+    same-length
+    returns)

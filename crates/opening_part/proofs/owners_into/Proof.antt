@@ -1,0 +1,113 @@
+-- `opening_part::owners_into` meets its contract. Assumes nothing.
+use Prim.Native.Nat.{ℕ, _+_, _*_, _-_, _≤_, min}
+use mathlib.Core.Path.{_≡_, ap, _∙_}
+use mathlib.Core.List.{List}
+use native.Mathlib.Omega.{arith}
+use borrow.Author.Needs.{needs}
+use lib.IntN.{ℤ}
+use lib.ListN.{length, set}
+use Rattle.rules_number.proofs.Kit.{came}
+use Rattle.rules_library.specs.Slices.{cellAt}
+use Rattle.rules_state.specs.Layout.{blockRoom}
+use Rattle.text_blocks.specs.Blocks.{ownerCells, ownerRows, blocksPut}
+use Rattle.text_blocks.proofs.OpeningLaws.{owners-none, owners-more}
+use Rattle.text_blocks.proofs.LastLaws.{blocks-length}
+use Rattle.opening_part.proofs.owners_into.Statement.{statement}
+use Rattle.opening_part.proofs.owners_into.Tie as tie
+
+abbrev Inv-loop : tie.InvT-loop
+Inv-loop portfolio start m blocks₀ n r₀ blocks r = (r ≤ n) × (blocks ≡ blocksPut ownerCells 0 0 blocks₀ (ownerRows portfolio start r))
+
+abbrev μ-loop : tie.MeasureT-loop
+μ-loop portfolio start m blocks₀ n r₀ blocks r = n - r
+
+at-most-requires : tie.Need-at-most-requires Inv-loop μ-loop
+at-most-requires c κs = search needs
+
+loop-holds : tie.Need-loop-holds Inv-loop μ-loop
+loop-holds c = let a = c .before .args in (omega arith, owners-none (a .portfolio .now) (a .start .now) (a .blocks .now))
+
+mul-put : tie.Need-mul-put Inv-loop μ-loop
+mul-put c = search needs
+
+mul-put-2 : tie.Need-mul-put-2 Inv-loop μ-loop
+mul-put-2 c = search needs
+
+element-copy-out-put : tie.Need-element-copy-out-put Inv-loop μ-loop
+element-copy-out-put c = search needs
+
+put-requires : tie.Need-put-requires Inv-loop μ-loop
+put-requires c κs = search needs
+
+mul-put-3 : tie.Need-mul-put-3 Inv-loop μ-loop
+mul-put-3 c = search needs
+
+add-put : tie.Need-add-put Inv-loop μ-loop
+add-put c = search needs
+
+mul-put-4 : tie.Need-mul-put-4 Inv-loop μ-loop
+mul-put-4 c = search needs
+
+element-copy-out-put-2 : tie.Need-element-copy-out-put-2 Inv-loop μ-loop
+element-copy-out-put-2 c = search needs
+
+put-requires-2 : tie.Need-put-requires-2 Inv-loop μ-loop
+put-requires-2 c κs = search needs
+
+add-r : tie.Need-add-r Inv-loop μ-loop
+add-r c = search needs
+
+loop-less : tie.Need-loop-less Inv-loop μ-loop
+loop-less c = search needs
+
+loop-again : tie.Need-loop-again Inv-loop μ-loop
+loop-again c =
+    let q = c .before in
+    let p = q .before .before .before .before in
+    let l = p .before .before .before .before in
+    let a = l .before .before .args in
+    let i = blockRoom * l .loop .r in
+    let x = cellAt (a .portfolio .now) (l .loop .r) in
+    let y = cellAt (a .start .now) (l .loop .r) in
+    let one = p .put .ensures ∙ ap (set (l .loop .blocks) i) (came x (p .before .put-arg2 .given)) in (
+      omega (arith, p .before .before .before .loop-test .taken),
+      q .put2 .ensures ∙ ap (set (p .put .last .0) (i + 1)) (came y (q .before .put-arg4 .given))
+          ∙ ap (λ (k : List ℤ). set k (i + 1) y) (one ∙ ap (λ (k : List ℤ). set k i x) (l .loop .inv .1))
+          ∙ owners-more (a .portfolio .now) (a .start .now) (a .blocks .now) (l .loop .r),
+    )
+
+same-length : tie.Need-same-length Inv-loop μ-loop
+same-length c =
+    let l = c .before in
+    let a = l .before .before .args in
+    ap length (l .loop .inv .1) ∙ blocks-length ownerCells 0 0 (a .blocks .now) (ownerRows (a .portfolio .now) (a .start .now) (l .loop .r))
+
+returns : tie.Need-returns Inv-loop μ-loop
+returns c =
+    let l = c .before in
+    let a = l .before .before .args in
+    let e : l .loop .r ≡ min (a .m) 64 = omega (arith, l .loop .inv .0, c .loop-test .left, l .before .at-most .ensures) in
+    l .loop .inv .1 ∙ ap (λ (k : ℕ). blocksPut ownerCells 0 0 (a .blocks .now) (ownerRows (a .portfolio .now) (a .start .now) k)) e
+
+pub owners-into-spec : {M : Type 1} → statement M
+owners-into-spec =
+    tie.close
+    (tie.spec
+    Inv-loop
+    μ-loop
+    at-most-requires
+    loop-holds
+    mul-put
+    mul-put-2
+    element-copy-out-put
+    put-requires
+    mul-put-3
+    add-put
+    mul-put-4
+    element-copy-out-put-2
+    put-requires-2
+    add-r
+    loop-less
+    loop-again
+    same-length
+    returns)

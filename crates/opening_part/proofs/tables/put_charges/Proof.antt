@@ -1,0 +1,83 @@
+-- `opening_part::tables::put_charges` meets its contract. Assumes nothing.
+use Prim.Native.Nat.{_+_, _-_, _≤_}
+use mathlib.Core.Path.{_≡_, refl, ap, _∙_}
+use native.Mathlib.Omega.{arith}
+use borrow.Author.Needs.{needs}
+use lib.IntN.{pos}
+use lib.ListN.{length, getD, set, length-set}
+use Rattle.rules_number.proofs.Kit.{came}
+use Rattle.text_blocks.proofs.BlockLaws.{ChargesLeft, charges-begin, charges-go-on, charges-end}
+use Rattle.opening_part.proofs.tables.put_charges.Statement.{statement}
+use Rattle.opening_part.proofs.tables.put_charges.Tie as tie
+
+abbrev Inv-loop : tie.InvT-loop
+Inv-loop cells₀ at v k₀ cells k = (k ≤ 7) × (length cells ≡ length cells₀) × ChargesLeft v cells₀ at cells k
+
+abbrev μ-loop : tie.MeasureT-loop
+μ-loop cells₀ at v k₀ cells k = 7 - k
+
+eight : (c : tie.Start Inv-loop μ-loop) → length (c .args .t3) ≡ 8
+eight c = search needs
+
+loop-holds : tie.Need-loop-holds Inv-loop μ-loop
+loop-holds c = (omega arith, refl, charges-begin (c .args .t3) (c .args .cells .now) (c .args .at))
+
+add-put : tie.Need-add-put Inv-loop μ-loop
+add-put c = search needs
+
+add-put-2 : tie.Need-add-put-2 Inv-loop μ-loop
+add-put-2 c = search needs
+
+mul-put : tie.Need-mul-put Inv-loop μ-loop
+mul-put c = search needs
+
+array-copy-out-put : tie.Need-array-copy-out-put Inv-loop μ-loop
+array-copy-out-put c = search needs
+
+put-requires : tie.Need-put-requires Inv-loop μ-loop
+put-requires c κs = search needs
+
+add-k : tie.Need-add-k Inv-loop μ-loop
+add-k c = search needs
+
+loop-less : tie.Need-loop-less Inv-loop μ-loop
+loop-less c = search needs
+
+loop-again : tie.Need-loop-again Inv-loop μ-loop
+loop-again c =
+    let p = c .before in
+    let l = p .before .before .before .before in
+    let a = l .before .args in
+    let x = getD (a .t3) (l .loop .k + 1) (pos 0) in
+    let put = p .put .ensures ∙ ap (set (l .loop .cells) (a .at + l .loop .k)) (came x (p .before .put-arg2 .given)) in (
+      omega arith,
+      ap length put ∙ length-set (l .loop .cells) (a .at + l .loop .k) x ∙ l .loop .inv .1,
+      charges-go-on (a .t3) (a .cells .now) (a .at) (l .loop .cells) (l .loop .k) _ (l .loop .inv .2) (omega (arith, eight (l .before))) put,
+    )
+
+same-length : tie.Need-same-length Inv-loop μ-loop
+same-length c = c .before .loop .inv .1
+
+returns : tie.Need-returns Inv-loop μ-loop
+returns c =
+    let l = c .before in
+    let a = l .before .args in
+    charges-end (a .t3) (a .cells .now) (a .at) (l .loop .cells) (l .loop .k) (l .loop .inv .2) (omega (arith, eight (l .before)))
+
+pub put-charges-spec : {M : Type 1} → statement M
+put-charges-spec =
+    tie.close
+    (tie.spec
+    Inv-loop
+    μ-loop
+    loop-holds
+    add-put
+    add-put-2
+    mul-put
+    array-copy-out-put
+    put-requires
+    add-k
+    loop-less
+    loop-again
+    same-length
+    returns)

@@ -1,2 +1,0 @@
--- Laws that the proofs of the code use.
-pub mod JoinedLaws

@@ -1,0 +1,110 @@
+-- `run::is_shown` meets its contract. Assumes nothing.
+use Prim.Native.Nat.{_+_}
+use mathlib.Core.Path.{_≡_, sym, ap₂, _∙_}
+use mir.Syntax.{w64}
+use mir.ValLaws.{toZ-ofZ}
+use borrow.Author.Tests.{not-false}
+use Rattle.rules_number.proofs.OverLaws.{never}
+use Rattle.rules_state.specs.States.{floorOf}
+use Rattle.rules_library.specs.Slices.{cellAt}
+use Rattle.run.proofs.GoingLaws.{positive}
+use Rattle.run.proofs.KeptLaws.{floor-here}
+use borrow.Author.Needs.{needs}
+use Rattle.run.proofs.is_shown.Statement.{statement}
+use Rattle.run.proofs.is_shown.Tie as tie
+
+add-if1 : tie.Need-add-if1
+add-if1 c = search needs
+
+mul-if1 : tie.Need-mul-if1
+mul-if1 c = search needs
+
+shared-slice-read-if1 : tie.Need-shared-slice-read-if1
+shared-slice-read-if1 c = search needs
+
+returns : tie.Need-returns
+returns c h = never h
+
+mul-is-same : tie.Need-mul-is-same
+mul-is-same c = search needs
+
+shared-slice-copy-out-is-same : tie.Need-shared-slice-copy-out-is-same
+shared-slice-copy-out-is-same c = search needs
+
+add-is-same : tie.Need-add-is-same
+add-is-same c = search needs
+
+mul-is-same-2 : tie.Need-mul-is-same-2
+mul-is-same-2 c = search needs
+
+shared-slice-copy-out-is-same-2 : tie.Need-shared-slice-copy-out-is-same-2
+shared-slice-copy-out-is-same-2 c = search needs
+
+is-same-requires : tie.Need-is-same-requires
+is-same-requires c κs = search needs
+
+returns-2 : tie.Need-returns-2
+returns-2 c h = never h
+
+add-is-same-2 : tie.Need-add-is-same-2
+add-is-same-2 c = search needs
+
+mul-is-same-3 : tie.Need-mul-is-same-3
+mul-is-same-3 c = search needs
+
+shared-slice-copy-out-is-same-3 : tie.Need-shared-slice-copy-out-is-same-3
+shared-slice-copy-out-is-same-3 c = search needs
+
+add-is-same-3 : tie.Need-add-is-same-3
+add-is-same-3 c = search needs
+
+add-is-same-4 : tie.Need-add-is-same-4
+add-is-same-4 c = search needs
+
+mul-is-same-4 : tie.Need-mul-is-same-4
+mul-is-same-4 c = search needs
+
+shared-slice-copy-out-is-same-4 : tie.Need-shared-slice-copy-out-is-same-4
+shared-slice-copy-out-is-same-4 c = search needs
+
+is-same-requires-2 : tie.Need-is-same-requires-2
+is-same-requires-2 c κs = search needs
+
+returns-3 : tie.Need-returns-3
+returns-3 c h =
+    let e = c .before .before .before in
+    let s = e .before .before .before .before .before .before .before in
+    let a = s .args in
+    let x = e .before in
+    let mark : cellAt (a .shown .now) (a .r) ≡ cellAt (a .state .now) (1 + a .r)
+    = sym (toZ-ofZ w64 (cellAt (a .shown .now) (a .r)) (record { sfits = x .before .before .is-same-arg .given })) ∙ x .is-same .ensures (not-false (x .is-same .result) (e .if2 .left))
+    ∙ toZ-ofZ w64 (cellAt (a .state .now) (1 + a .r)) (record { sfits = x .before .is-same-arg2 .given }) in
+    let price : cellAt (a .shown .now) (64 + a .r) ≡ cellAt (a .state .now) (65 + a .r)
+    = sym (toZ-ofZ w64 (cellAt (a .shown .now) (64 + a .r)) (record { sfits = c .before .before .is-same-arg3 .given })) ∙ c .is-same2 .ensures h
+    ∙ toZ-ofZ w64 (cellAt (a .state .now) (65 + a .r)) (record { sfits = c .before .is-same-arg4 .given }) in
+    (positive _ (x .before .before .before .if1 .left), ap₂ floorOf mark price ∙ sym (floor-here (a .state .now) (a .r) (s .pre .0)))
+
+pub is-shown-spec : {M : Type 1} → statement M
+is-shown-spec =
+    tie.close
+    (tie.spec
+    add-if1
+    mul-if1
+    shared-slice-read-if1
+    returns
+    mul-is-same
+    shared-slice-copy-out-is-same
+    add-is-same
+    mul-is-same-2
+    shared-slice-copy-out-is-same-2
+    is-same-requires
+    returns-2
+    add-is-same-2
+    mul-is-same-3
+    shared-slice-copy-out-is-same-3
+    add-is-same-3
+    add-is-same-4
+    mul-is-same-4
+    shared-slice-copy-out-is-same-4
+    is-same-requires-2
+    returns-3)

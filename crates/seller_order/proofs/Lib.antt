@@ -1,2 +1,0 @@
--- Laws of the order, and of the bits left.
-pub mod OrderLaws

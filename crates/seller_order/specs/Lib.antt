@@ -1,2 +1,0 @@
--- How the code holds its values.
-pub mod Orders

@@ -1,0 +1,2 @@
+-- Definitions that the contracts of opening_part cite.
+pub mod Blocks

@@ -1,0 +1,141 @@
+-- Laws of the seller that leads, of the bits left, and of the order as it is stored. Assumes nothing.
+use Prim.Native.Nat.{ℕ, zero, suc, _+_, _-_, _*_, _≤_, _<_, _/_, _%_, _^_}
+use mathlib.Core.Path.{_≡_, refl, sym, ap, ap₂, _∙_}
+use mathlib.Core.List.{List, [], _∷_, _++_}
+use mathlib.Core.Option.{Option, none, some}
+use mathlib.Core.Bool.{Bool, true, false, cond}
+use mathlib.Core.Logic.{⊎-elim}
+use borrow.Author.Tests.{lt-ltb, le-ltb, eqb-true, eqb-false, eq-eqb, ne-eqb}
+use native.Mathlib.Omega.{arith}
+use native.Mathlib.Nat.{add-div-left, add-zero, add-suc}
+use native.Mathlib.Numerals.{add-one}
+use lib.Dec.{ltb, eqb}
+use lib.ListN.{length, drop, take, getD, set, length-drop, length-take}
+use lib.Pow.{pow-pos, pow-mono, shr-shr}
+use lib.Seq.{take-all, take-suc, drop-cons}
+use Rattle.rules_number.specs.Over.{padded}
+use Rattle.rules_number.proofs.OverLaws.{le-or-lt, padded-at, padded-more}
+use Rattle.rules_path.specs.Verdicts.{bit, isNamed}
+use Rattle.rules_path.specs.declared.Verdict.{Verdict}
+use Rattle.rules_path.proofs.BitLaws.{add-bit-other, bit-past, bit-zero}
+use Rattle.rules_page.specs.Pages.{weightOf, sellersPrinted}
+use Rattle.rules_page.specs.Weights.{without, later, leads, andThen, byWeight}
+use Rattle.rules_page.proofs.SellerOrder.{Leads, leads-are, mem-at, sellers-by-weight}
+use Rattle.verdict_page.specs.Orders.{isLeft, orSixteen}
+
+-- ---- the one that comes first of two
+module _ (best p a b : ℕ) where
+  pub pick-later : best < 16 → a < b → p ≡ cond (ltb best 16) (cond (ltb a b) p best) p
+  pick-later h l = rw (lt-ltb best 16 h, lt-ltb a b l)
+
+  pub pick-before : best < 16 → b ≤ a → best ≡ cond (ltb best 16) (cond (ltb a b) p best) p
+  pick-before h l = rw (lt-ltb best 16 h, le-ltb a b l)
+
+  pub pick-only : 16 ≤ best → p ≡ cond (ltb best 16) (cond (ltb a b) p best) p
+  pick-only h = rw (le-ltb best 16 h)
+
+-- ---- the one that leads, as the code has it
+module _ (w : ℕ → ℕ) (left : ℕ → Bool) where
+  pub none-led : orSixteen (leads w left 0) ≡ 16
+  unfolding leads
+  none-led = refl
+
+  module _ (n : ℕ) where
+    leads-in : left n ≡ true → leads w left (suc n) ≡ later w (leads w left n) n
+    unfolding leads
+    leads-in e = rw e
+
+    leads-out : left n ≡ false → leads w left (suc n) ≡ leads w left n
+    unfolding leads
+    leads-out e = rw e
+
+    pub next-in : n < 16 → left n ≡ true
+        → cond (ltb (orSixteen (leads w left n)) 16) (cond (ltb (w (orSixteen (leads w left n))) (w n)) n (orSixteen (leads w left n))) n ≡ orSixteen (leads w left (n + 1))
+    next-in l e = go (leads w left n) (leads-are w left n) ∙ sym (ap orSixteen (ap (leads w left) (add-one n) ∙ leads-in e))
+      where
+        either : (d : Bool) (p : ℕ) → cond d n p ≡ orSixteen (cond d (some n) (some p))
+        either true p = refl
+        either false p = refl
+
+        go : (o : Option ℕ) → Leads w left n o → cond (ltb (orSixteen o) 16) (cond (ltb (w (orSixteen o)) (w n)) n (orSixteen o)) n ≡ orSixteen (later w o n)
+        go none h = refl
+        go (some p) h = ap (λ (d : Bool). cond d (cond (ltb (w p) (w n)) n p) n) (lt-ltb p 16 (omega (arith, h .0, l))) ∙ either (ltb (w p) (w n)) p
+
+    pub next-out : left n ≡ false → orSixteen (leads w left n) ≡ orSixteen (leads w left (n + 1))
+    next-out e = sym (ap orSixteen (ap (leads w left) (add-one n) ∙ leads-out e))
+
+  -- the number that answers it
+  module _ (p : ℕ) (e : p ≡ orSixteen (leads w left 16)) where
+    pub led : p < 16 → (leads w left 16 ≡ some p) × (left p ≡ true)
+    led l = go (leads w left 16) refl (leads-are w left 16)
+      where
+        go : (o : Option ℕ) → leads w left 16 ≡ o → Leads w left 16 o → (o ≡ some p) × (left p ≡ true)
+        go none f s = absurd (omega (arith, e ∙ ap orSixteen f, l))
+        go (some q) f s = let z : p ≡ q = e ∙ ap orSixteen f in (ap some (sym z), ap left z ∙ s .1)
+
+    unled : 16 ≤ p → leads w left 16 ≡ none
+    unled l = go (leads w left 16) refl (leads-are w left 16)
+      where
+        go : (o : Option ℕ) → leads w left 16 ≡ o → Leads w left 16 o → o ≡ none
+        go none f s = refl
+        go (some q) f s = absurd (omega (arith, e ∙ ap orSixteen f, l, s .0))
+
+    pub order-none : 16 ≤ p → (k : ℕ) → byWeight k w left ≡ []
+    unfolding byWeight
+    order-none l zero = refl
+    order-none l (suc k) = ap (λ (o : Option ℕ). andThen o (λ q. byWeight k w (without q left))) (unled l)
+
+    pub order-next : p < 16 → (k : ℕ) → byWeight (suc k) w left ≡ p ∷ byWeight k w (without p left)
+    unfolding byWeight
+    order-next l k = ap (λ (o : Option ℕ). andThen o (λ q. byWeight k w (without q left))) (led l .0)
+
+-- ---- the bits left
+pub bit-there : (q m : ℕ) → isLeft m q ≡ true → 2 ^ q ≤ m
+bit-there q m h = ⊎-elim (λ l. l) (λ l. absurd (omega (arith, eqb-true (bit q m) 1 h, bit-past q m l))) (le-or-lt (2 ^ q) m)
+
+-- the rest of the bits, from p on
+module _ (w : ℕ → ℕ) (left p rest : ℕ) (e : rest ≡ left / 2 ^ p) where
+  pub rest-in : rest % 2 ≡ 1 → isLeft left p ≡ true
+  rest-in h = eq-eqb (bit p left) 1 (ap (λ (z : ℕ). z % 2) (sym e) ∙ h)
+
+  pub rest-out : (rest % 2 ≡ 1 → ⊥) → isLeft left p ≡ false
+  rest-out h = ne-eqb (bit p left) 1 (λ z. h (ap (λ (r : ℕ). r % 2) e ∙ z))
+
+  pub rest-half : rest / 2 ≡ left / 2 ^ (p + 1)
+  rest-half = ap (λ (r : ℕ). r / 2) e ∙ shr-shr left p 1
+
+  -- none is left, so the one that leads stays
+  pub rest-none : rest ≡ 0 → p ≤ 16 → orSixteen (leads w (isLeft left) p) ≡ orSixteen (leads w (isLeft left) 16)
+  rest-none z l = sym (ap orSixteen (ap (leads w (isLeft left)) whole ∙ stays (16 - p)))
+    where
+      whole : 16 ≡ p + (16 - p)
+      whole = omega (arith, l)
+
+      -- bit p + k is bit k of the rest
+      none-there : (k : ℕ) → bit (p + k) left ≡ 0
+      none-there k = ap (λ (r : ℕ). r % 2) (sym (shr-shr left p k)) ∙ ap (bit k) (sym e ∙ z) ∙ bit-zero k
+
+      stays : (k : ℕ) → leads w (isLeft left) (p + k) ≡ leads w (isLeft left) p
+      stays zero = ap (leads w (isLeft left)) (add-zero p)
+      stays (suc k) = ap (leads w (isLeft left)) (add-suc p k) ∙ leads-out w (isLeft left) (p + k) (ap (λ (b : ℕ). eqb b 1) (none-there k)) ∙ stays k
+
+-- taking its bit away strikes a portfolio out and leaves the others
+pub struck-out : (q m : ℕ) → isLeft m q ≡ true → isLeft (m - 2 ^ q) ≡ without q (isLeft m)
+struck-out q m h = λ i p. at p i
+  where
+    sum : 2 ^ q + (m - 2 ^ q) ≡ m
+    sum = omega (arith, bit-there q m h)
+
+    gone : bit q (m - 2 ^ q) ≡ 0
+    gone = omega (arith, add-div-left (m - 2 ^ q) {k = 2 ^ q} (pow-pos q), ap (bit q) sum, eqb-true (bit q m) 1 h)
+
+    at : (p : ℕ) → isLeft (m - 2 ^ q) p ≡ without q (isLeft m) p
+    at p = go (eqb p q) refl
+      where
+        go : (d : Bool) → eqb p q ≡ d → isLeft (m - 2 ^ q) p ≡ cond d false (isLeft m p)
+        go true e = ap (λ (k : ℕ). isLeft (m - 2 ^ q) k) (eqb-true p q e) ∙ ap (λ (b : ℕ). eqb b 1) gone
+        go false e = ap (λ (b : ℕ). eqb b 1) (sym (add-bit-other p q (m - 2 ^ q) gone (eqb-false p q e)) ∙ ap (bit p) sum)
+
+-- the bit of a portfolio, as the code shifts it
+pub one-shifted : (p : ℕ) → p < 16 → 1 * 2 ^ p % 4294967296 ≡ 2 ^ p
+one-shifted p h = let l : p ≤ 16 = omega arith in omega (arith, pow-mono {i = p} {j = 16} l)

@@ -1,0 +1,164 @@
+-- `verdict_page::put_named` meets its contract. Assumes nothing.
+use Prim.Native.Nat.{ℕ, _+_, _-_, _*_, _≤_, _<_}
+use mathlib.Core.Path.{ap, subst}
+use mathlib.Core.List.{List, _∷_}
+use borrow.Author.Needs.{needs}
+use native.Mathlib.Omega.{arith}
+use lib.IntN.{pos}
+use Rattle.rules_number.proofs.Kit.{came}
+use Rattle.rules_text.specs.Printing.{groupText, lineText}
+use Rattle.rules_page.specs.Pages.{printable, sellerRows}
+use Rattle.verdict_page.specs.Orders.{weightIn, isLeft}
+use Rattle.verdict_page.proofs.OrderLaws.{led, bit-there, one-shifted}
+use Rattle.page.proofs.PageLaws.{Putting, putting-start, putting-next, putting-done}
+use Rattle.rules_library.specs.Slices.{cellAt}
+use Rattle.rules_state.specs.Layout.{verdictWidth}
+use Rattle.rules_state.specs.Verdicts.{verdictIn}
+use Rattle.verdict_page.specs.Shown.{withheldIn}
+use Rattle.verdict_page.proofs.SellerLaws.{sellerIn, leftRows, sellers-left, left-next, left-none, left-past}
+use Rattle.verdict_page.proofs.put_named.Statement.{statement}
+use Rattle.verdict_page.proofs.put_named.Tie as tie
+
+abbrev Inv-loop : tie.InvT-loop
+Inv-loop out₀ at i c verdicts from finding names left₀ q₀ n₀ out left q n =
+    Putting out₀ at (groupText (printable i) c (sellerRows (verdictIn verdicts c))) out q (groupText (printable i) c (leftRows (withheldIn verdicts c) left n)) × (n ≤ 16) × (q ≤ at + 84 * n)
+
+abbrev μ-loop : tie.MeasureT-loop
+μ-loop out₀ at i c verdicts from finding names left₀ q₀ n₀ out left q n = 16 - n
+
+mul-from : tie.Need-mul-from Inv-loop μ-loop
+mul-from c = search needs
+
+mul-finding : tie.Need-mul-finding Inv-loop μ-loop
+mul-finding c = search needs
+
+element-copy-out-finding : tie.Need-element-copy-out-finding Inv-loop μ-loop
+element-copy-out-finding c = search needs
+
+add-names : tie.Need-add-names Inv-loop μ-loop
+add-names c = search needs
+
+mul-names : tie.Need-mul-names Inv-loop μ-loop
+mul-names c = search needs
+
+element-copy-out-names : tie.Need-element-copy-out-names Inv-loop μ-loop
+element-copy-out-names c = search needs
+
+named-by-requires : tie.Need-named-by-requires Inv-loop μ-loop
+named-by-requires c κs = search needs
+
+loop-holds : tie.Need-loop-holds Inv-loop μ-loop
+loop-holds c =
+    let n = c .before in
+    let k = n .before in
+    let a = k .before .before .args in
+    let cells = a .verdicts .now in
+    let from = verdictWidth * a .c in
+    let text = groupText (printable (a .i)) (a .c) (sellerRows (verdictIn cells (a .c))) in
+    let named = simp (came (cellAt cells from) (k .finding .given), came (cellAt cells (from + 3)) (n .names .given)) at (c .named-by .ensures) in
+    let e = sellers-left cells (a .c) (c .named-by .result) named in
+    (subst (λ (x : List ℕ). Putting (a .out .now) (a .at) text (a .out .now) (a .at) x) (ap (groupText (printable (a .i)) (a .c)) e) (putting-start (a .out .now) (a .at) text), omega arith, omega arith)
+
+next-seller-requires : tie.Need-next-seller-requires Inv-loop μ-loop
+next-seller-requires c κs = search needs
+
+-- where the function began
+abbrev start : tie.In-loop Inv-loop μ-loop → tie.Start Inv-loop μ-loop
+start l = l .before .before .before .before .before .before
+
+same-length : tie.Need-same-length Inv-loop μ-loop
+same-length c = c .before .before .before .loop .inv .0 .long
+
+returns : tie.Need-returns Inv-loop μ-loop
+returns c =
+    let k = c .before in
+    let x = k .before .before .loop in
+    let a = start (k .before) .args in
+    let d = putting-done (x .inv .0) (left-none (withheldIn (a .verdicts .now) (a .c)) (printable (a .i)) (a .c) (x .left) (x .n) (k .next-seller .result) (k .next-seller .ensures) (c .if1 .taken)) in
+    record { buffer = d .0; next = d .1; few = omega (arith, x .inv .1, x .inv .2) }
+
+put-seller-requires : tie.Need-put-seller-requires Inv-loop μ-loop
+put-seller-requires c κs =
+    let e = c .before in
+    let l = e .before .before in
+    let x = l .before .loop in
+    (omega (arith, l .loop-test .taken, x .inv .0 .long, x .inv .2, start l .pre .0), start l .pre .1, e .if1 .left)
+
+-- the test that a seller is left
+abbrev test : tie.After-slice-known2 Inv-loop μ-loop → tie.Else1 Inv-loop μ-loop
+test c = c .before .before .before .before
+
+cast-left : tie.Need-cast-left Inv-loop μ-loop
+cast-left c = search needs
+
+shl-left : tie.Need-shl-left Inv-loop μ-loop
+shl-left c = omega (arith, test c .if1 .left)
+
+sub-left : tie.Need-sub-left Inv-loop μ-loop
+sub-left c =
+    let k = test c .before in
+    let l = k .before in
+    let a = start l .args in
+    let p = k .next-seller .result in
+    let h : p < 16 = test c .if1 .left in
+    let e = led (weightIn (withheldIn (a .verdicts .now) (a .c))) (isLeft (l .before .loop .left)) p (k .next-seller .ensures) h in
+    omega (arith, one-shifted p h, bit-there p (l .before .loop .left) (e .1))
+
+add-n : tie.Need-add-n Inv-loop μ-loop
+add-n c = omega (arith, test c .before .before .loop-test .taken)
+
+loop-less : tie.Need-loop-less Inv-loop μ-loop
+loop-less c = omega (arith, test c .before .before .loop-test .taken)
+
+loop-again : tie.Need-loop-again Inv-loop μ-loop
+loop-again c =
+    let f = c .before .before .put-seller in
+    let k = test c .before in
+    let l = k .before in
+    let a = start l .args in
+    let x = l .before .loop in
+    let p = k .next-seller .result in
+    let h : p < 16 = test c .if1 .left in
+    let w = withheldIn (a .verdicts .now) (a .c) in
+    let next = left-next w (printable (a .i)) (a .c) (x .left) (x .n) p (k .next-seller .ensures) h (omega (arith, l .loop-test .taken)) _ (one-shifted p h) in (
+      putting-next (x .inv .0) (lineText (pos (printable (a .i)) ∷ pos (a .c) ∷ sellerIn w p)) _ (f .last .0) (f .result) next (f .ensures .buffer) (f .ensures .next),
+      omega (arith, l .loop-test .taken),
+      omega (arith, x .inv .2, f .ensures .few),
+    )
+
+same-length-2 : tie.Need-same-length-2 Inv-loop μ-loop
+same-length-2 c = c .before .loop .inv .0 .long
+
+returns-2 : tie.Need-returns-2 Inv-loop μ-loop
+returns-2 c =
+    let x = c .before .loop in
+    let a = c .before .before .before .before .before .before .args in
+    let d = putting-done (x .inv .0) (left-past (withheldIn (a .verdicts .now) (a .c)) (printable (a .i)) (a .c) (x .left) (x .n) (omega (arith, c .loop-test .left))) in
+    record { buffer = d .0; next = d .1; few = omega (arith, x .inv .1, x .inv .2) }
+
+pub put-named-spec : {M : Type 1} → statement M
+put-named-spec =
+    tie.close
+    (tie.spec
+    Inv-loop
+    μ-loop
+    mul-from
+    mul-finding
+    element-copy-out-finding
+    add-names
+    mul-names
+    element-copy-out-names
+    named-by-requires
+    loop-holds
+    next-seller-requires
+    same-length
+    returns
+    put-seller-requires
+    cast-left
+    shl-left
+    sub-left
+    add-n
+    loop-less
+    loop-again
+    same-length-2
+    returns-2)

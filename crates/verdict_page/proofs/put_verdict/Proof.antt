@@ -1,0 +1,113 @@
+-- `verdict_page::put_verdict` meets its contract. Assumes nothing.
+use Prim.Native.Nat.{ℕ, _+_, _*_}
+use mathlib.Core.Path.{sym, ap, subst, _∙_}
+use mathlib.Core.List.{List, _∷_}
+use native.Mathlib.Omega.{arith}
+use lib.IntN.{pos}
+use Rattle.rules_number.proofs.Kit.{came}
+use Rattle.rules_text.specs.Numbers.{Row}
+use Rattle.rules_text.specs.Printing.{lineText}
+use Rattle.rules_page.specs.Pages.{Put, printable}
+use Rattle.page.proofs.PageLaws.{small-printable, group-one}
+use Rattle.rules_library.specs.Slices.{cellAt}
+use Rattle.rules_state.specs.Layout.{verdictWidth}
+use Rattle.verdict_page.proofs.ShownLaws.{verdict-row}
+use borrow.Author.Needs.{needs}
+use Rattle.verdict_page.proofs.put_verdict.Statement.{statement}
+use Rattle.verdict_page.proofs.put_verdict.Tie as tie
+
+mul-from : tie.Need-mul-from
+mul-from c = search needs
+
+mul-finding : tie.Need-mul-finding
+mul-finding c = search needs
+
+element-copy-out-finding : tie.Need-element-copy-out-finding
+element-copy-out-finding c = search needs
+
+add-demand : tie.Need-add-demand
+add-demand c = search needs
+
+mul-demand : tie.Need-mul-demand
+mul-demand c = search needs
+
+element-copy-out-demand : tie.Need-element-copy-out-demand
+element-copy-out-demand c = search needs
+
+add-left : tie.Need-add-left
+add-left c = search needs
+
+mul-left : tie.Need-mul-left
+mul-left c = search needs
+
+element-copy-out-left : tie.Need-element-copy-out-left
+element-copy-out-left c = search needs
+
+printable-requires : tie.Need-printable-requires
+printable-requires c κs = search needs
+
+printable-requires-2 : tie.Need-printable-requires-2
+printable-requires-2 c κs = search needs
+
+finding-of-requires : tie.Need-finding-of-requires
+finding-of-requires c κs = search needs
+
+shown-cell-requires : tie.Need-shown-cell-requires
+shown-cell-requires c κs = search needs
+
+shown-cell-requires-2 : tie.Need-shown-cell-requires-2
+shown-cell-requires-2 c κs = search needs
+
+put-line-requires : tie.Need-put-line-requires
+put-line-requires c κs = search needs
+
+same-length : tie.Need-same-length
+same-length c = search needs
+
+returns : tie.Need-returns
+returns c =
+    let f = c .before .before in
+    let b = f .before .before in
+    let a = b .before in
+    let g = a .before in
+    let p2 = g .before in
+    let p1 = p2 .before in
+    let l = p1 .before in
+    let d = l .before in
+    let k = d .before in
+    let s = k .before .before in
+    let cells = s .args .verdicts .now in
+    let from = verdictWidth * s .args .c in
+    let zf = came (cellAt cells from) (k .finding .given) in
+    let zd = came (cellAt cells (from + 1)) (d .demand .given) in
+    let zl = came (cellAt cells (from + 2)) (l .left .given) in
+    let fi = came (p1 .printable .result) (p1 .printable .ok) ∙ p1 .printable .ensures in
+    let fc = came (p2 .printable2 .result) (p2 .printable2 .ok) ∙ p2 .printable2 .ensures ∙ ap pos (small-printable (s .args .c) (omega (arith, s .pre .1))) in
+    let ff = came (g .finding-of .result) (g .finding-of .ok) ∙ (simp zf at (g .finding-of .ensures)) in
+    let fd = came (a .shown-cell .result) (a .shown-cell .ok) ∙ (simp (zf, zd) at (a .shown-cell .ensures)) in
+    let fl = came (b .shown-cell2 .result) (b .shown-cell2 .ok) ∙ (simp (zf, zl) at (b .shown-cell2 .ensures)) in
+    let e = verdict-row cells (s .args .c) (d .demand .given) (l .left .given) in
+    subst (λ (text : List ℕ). Put 105 (s .args .out .now) (s .args .at) text (f .put-line .last .0) (f .put-line .result)) (sym (group-one (printable (s .args .i)) (s .args .c) _ ∙ ap (λ (x : Row). lineText (pos (printable (s .args .i)) ∷ pos (s .args .c) ∷ x)) e))
+    (simp (fi, fc, ff, fd, fl) at (f .put-line .ensures))
+
+pub put-verdict-spec : {M : Type 1} → statement M
+put-verdict-spec =
+    tie.close
+    (tie.spec
+    mul-from
+    mul-finding
+    element-copy-out-finding
+    add-demand
+    mul-demand
+    element-copy-out-demand
+    add-left
+    mul-left
+    element-copy-out-left
+    printable-requires
+    printable-requires-2
+    finding-of-requires
+    shown-cell-requires
+    shown-cell-requires-2
+    put-line-requires
+    same-length
+    returns)

@@ -1,0 +1,3 @@
+-- How the code holds its values.
+pub mod Shown
+pub mod Orders
