@@ -1,11 +1,10 @@
-// Verdicts put into a lent slice of numbers. The contracts cite the definitions of rules_state.
-use rules_interval::Interval;
+// A verdict put into a lent slice of numbers. The contracts cite the definitions of rules_state.
 use rules_path::Verdict;
 ghost use mathlib.Core.Path.{_≡_};
 ghost use lib.ListN.{length};
 ghost use lib.Seq.{sets};
 ghost use Rattle.rules_state.specs.Layout.{verdictWidth};
-ghost use Rattle.rules_state.specs.Verdicts.{verdictCells, verdictsCells};
+ghost use Rattle.rules_state.specs.Verdicts.{verdictCells};
 
 // Puts a verdict from a cell on: its finding, demand, left, the sellers named, and what each portfolio withholds.
 pub fn put_verdict(out: &mut [i64], at: usize, verdict: Verdict)
@@ -22,16 +21,4 @@ pub fn put_verdict(out: &mut [i64], at: usize, verdict: Verdict)
     cells::put_whole(out, at + 2, verdict.left);
     cells::put_whole(out, at + 3, verdict.named as u64);
     cells::put_wholes(out, at + 4, &withheld);
-}
-
-// Puts the verdicts of an interval at the front.
-pub fn put_verdicts(out: &mut [i64], verdicts: [Verdict; Interval::MAX_CONSTRAINTS])
-    ensures { λ x. ⌜ now (out .exit) ≡ sets (now (out .entry)) 0 (verdictsCells verdicts) ⌝ }
-{
-    let mut c: usize = 0;
-    while c < Interval::MAX_CONSTRAINTS {
-        let verdict = verdicts[c];
-        put_verdict(out, rules_state::VERDICT_WIDTH * c, verdict);
-        c += 1;
-    }
 }
