@@ -36,7 +36,7 @@ extern "C" {
 
 /* How many bytes of stack a run takes at most, and any call. */
 #define NOSKJERF_RUN_STACK 128000
-#define NOSKJERF_STACK 150000
+#define NOSKJERF_STACK 128000
 
 /* How many numbers the last buffer of noskjerf_told has to have. */
 #define NOSKJERF_TOLD 2

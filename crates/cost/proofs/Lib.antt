@@ -1,2 +1,5 @@
 -- Laws that the proofs of the code use.
+pub mod CellLaws
+pub mod LiftLaws
+pub mod RiseLaws
 pub mod StepLaws

@@ -13,9 +13,21 @@ ghost use lib.Dec.{leb, ltb, eqb};
 ghost use lib.IntN.{pos};
 ghost use lib.Signed.{ltZ};
 ghost use Rattle.rules_number.specs.Order.{natOf};
+ghost use Rattle.rules_number.specs.Ceil.{ceilDiv};
 ghost use Rattle.rules_curve.specs.Refusals.{outcomeNumber, unless};
-ghost use Rattle.rules_curve.specs.Curves.{unlessRefused};
+ghost use Rattle.rules_curve.specs.Curves.{unlessRefused, blankCurve};
+ghost use Rattle.rules_curve.specs.declared.Outcome.the-variants.{Refused};
+ghost use Rattle.rules_state.specs.States.{curveInCells};
+ghost use Rattle.cost.specs.Cells.{inCells};
 ghost use Rattle.rules_cost.specs.Costs.{mostPoints, mark, splitAt, mwInRange, heatInRange, rateInRange, incrementalRate, withAdder, costCurve, pointsGood, mwGood, heatGood, chargesInRange, pricesInRange, ratesGood, costRefusal};
+
+// A default curve: where it starts and ends, and its cells in a state.
+pub struct DefaultCells {
+    pub outcome: Outcome,
+    pub start: u64,
+    pub end: u64,
+    pub cells: [i64; rules_state::CURVE_ROOM],
+}
 
 // R, the incremental heat rate from this point to the next, after the 80% limit on a step that ends at `end`.
 fn incremental_rate(from: Point, next: Point, end: i64, pmax: i64) -> i64
@@ -92,7 +104,7 @@ fn end_of(split: usize, t: usize, k: i64, to: i64) -> i64
     if t == split { k } else { to }
 }
 
-// Whether each quantity is in range and above the one before it; any in range is above -1.
+// Whether each quantity is in range and above the one before it: the first is above -1, and the last is the largest.
 fn quantities_good(costs: Costs) -> bool
     requires { ⌜ costs .count ≤ mostPoints ⌝ }
     ensures { λ r. ⌜ r ≡ mwGood costs ⌝ }
@@ -103,16 +115,13 @@ fn quantities_good(costs: Costs) -> bool
     while i < n {
         let p = costs.points[i];
         let m = p.mw;
-        if !number::within(m, 0, Curve::MAX_QUANTITY) {
-            return false;
-        }
         if m <= before {
             return false;
         }
         before = m;
         i += 1;
     }
-    true
+    before <= Curve::MAX_QUANTITY
 }
 
 // Whether each average heat rate is in range.
@@ -164,28 +173,53 @@ fn prices_good(costs: Costs) -> bool
     charges_good(costs)
 }
 
-// The price of a step from the largest rate so far, its own rate and its width.
+// n / w, up.
+fn ceil_of(n: u64, w: u64) -> u64
+    requires { ⌜ (n ≤ 1000000000000000000) × ((0 < w) × (w ≤ 1000000000)) ⌝ }
+    ensures { λ r. ⌜ pos r ≡ ceilDiv (pos n) w ⌝ }
+{
+    (n + (w - 1)) / w
+}
+
+// The price of a step from the largest rate so far, its own rate and its width. Fuel and greenhouse may lie below zero: they are lifted above it, and the price is
+// put down again.
 fn step_price(costs: Costs, largest: i64, rate: i64, width: i64) -> i64
     requires prices { ⌜ pricesInRange costs ≡ true ⌝ }
     requires rates { ⌜ (rateInRange largest ≡ true) × (rateInRange rate ≡ true) ⌝ }
-    requires width { ⌜ 0 < natOf width ⌝ }
+    requires width { ⌜ (0 < natOf width) × (natOf width ≤ 2000000) ⌝ }
     ensures { λ r. ⌜ r ≡ withAdder costs largest rate (natOf width) ⌝ }
 {
-    let fuel = number::ceil_by(largest * costs.gas, 1000);
-    let greenhouse = number::ceil_by(rate * costs.rate * costs.allowance, 1_000_000_000);
-    let fee_part = number::ceil_by(100 * costs.fee, width);
-    let cost = fuel + greenhouse + costs.om + costs.msc + costs.soc + fee_part;
-    number::ceil_by(11 * cost, 10)
+    let fuel = ceil_of((largest * costs.gas + 100_000_000_000) as u64, 1000);
+    let greenhouse = ceil_of(
+        (rate * costs.rate * costs.allowance + 200_000_000_000_000_000) as u64,
+        1_000_000_000,
+    );
+    let fee_part = ceil_of((100 * costs.fee) as u64, width as u64);
+    let fixed = (costs.om + costs.msc + costs.soc) as u64;
+    let lifted = ceil_of(11 * (fuel + greenhouse + fixed + fee_part), 10);
+    lifted as i64 - 330_000_000
+}
+
+// A refusal alone.
+fn refused(refusal: Refusal) -> DefaultCells
+    ensures { λ r. ⌜ r ≡ inCells (Refused refusal) blankCurve ⌝ }
+{
+    DefaultCells {
+        outcome: Outcome::Refused(refusal),
+        start: 0,
+        end: 0,
+        cells: [0i64; rules_state::CURVE_ROOM],
+    }
 }
 
 // The default curve of costs that pass 4 to 7, or refusal 8. M and the price start at the lowest that they can be.
-fn stepped(costs: Costs) -> Checked
+fn stepped(costs: Costs) -> DefaultCells
     requires points { ⌜ pointsGood costs ≡ true ⌝ }
     requires quantities { ⌜ mwGood costs ≡ true ⌝ }
     requires heats { ⌜ heatGood costs ≡ true ⌝ }
     requires prices { ⌜ pricesInRange costs ≡ true ⌝ }
     ensures number { λ r. ⌜ outcomeNumber (r .outcome) ≡ unless (ratesGood costs) 8 ⌝ }
-    ensures curve { λ r. ⌜ r .curve ≡ unlessRefused (unless (ratesGood costs) 8) (costCurve costs) ⌝ }
+    ensures curve { λ r. ⌜ r ≡ inCells (r .outcome) (unlessRefused (unless (ratesGood costs) 8) (costCurve costs)) ⌝ }
 {
     let segments = costs.count - 1;
     let top = costs.points[segments];
@@ -194,9 +228,11 @@ fn stepped(costs: Costs) -> Checked
     let count = steps_of(split, segments);
     let first = costs.points[0];
     let mut edge = first.mw;
+    let mut cells = [0i64; rules_state::CURVE_ROOM];
+    cells[0] = count as i64;
+    cells[1] = edge;
     let mut largest = -Costs::MAX_INCREMENTAL;
     let mut price = Curve::LOWEST_DEFAULT;
-    let mut steps = [Step { end: 0, price: 0 }; Curve::MAX_STEPS];
     let mut t: usize = 0;
     while t < count {
         let i = segment_of(split, t);
@@ -205,23 +241,63 @@ fn stepped(costs: Costs) -> Checked
         let end = end_of(split, t, k, to.mw);
         let rate = incremental_rate(from, to, end, top.mw);
         if !number::within(rate, -Costs::MAX_INCREMENTAL, Costs::MAX_INCREMENTAL) {
-            return curve::refused(Refusal::IncrementalRate);
+            return refused(Refusal::IncrementalRate);
         }
         largest = number::max(largest, rate);
         price = number::max(price, step_price(costs, largest, rate, end - edge));
-        let whole = number::whole(end);
-        steps[t] = Step { end: whole, price };
+        cells[2 + t] = end;
+        cells[2 + Curve::MAX_STEPS + t] = price;
         edge = end;
         t += 1;
     }
-    let curve = Curve {
-        start: number::whole(first.mw),
-        count,
-        steps,
-    };
-    Checked {
+    DefaultCells {
         outcome: Outcome::Accepted,
-        curve,
+        start: number::whole(first.mw),
+        end: number::whole(edge),
+        cells,
+    }
+}
+
+// The default curve in cells, or the lowest of refusals 4 to 8 that applies.
+pub fn default_cells(costs: Costs) -> DefaultCells
+    ensures number { λ r. ⌜ outcomeNumber (r .outcome) ≡ costRefusal costs ⌝ }
+    ensures curve { λ r. ⌜ r ≡ inCells (r .outcome) (unlessRefused (costRefusal costs) (costCurve costs)) ⌝ }
+{
+    let n = costs.count;
+    if n < Costs::MIN_POINTS {
+        return refused(Refusal::PointCount);
+    }
+    if Costs::MAX_POINTS < n {
+        return refused(Refusal::PointCount);
+    }
+    if !quantities_good(costs) {
+        return refused(Refusal::Quantity);
+    }
+    if !heats_good(costs) {
+        return refused(Refusal::HeatRate);
+    }
+    if !prices_good(costs) {
+        return refused(Refusal::CostRange);
+    }
+    stepped(costs)
+}
+
+// The curve of its cells.
+fn curve_in(s: &[i64]) -> Curve
+    ensures { λ r. ⌜ r ≡ curveInCells (now (s .entry)) 0 ⌝ }
+{
+    let mut steps = [Step { end: 0, price: 0 }; Curve::MAX_STEPS];
+    let mut i: usize = 0;
+    while i < Curve::MAX_STEPS {
+        let end = cells::whole_at(s, 2 + i);
+        let price = cells::cell_at(s, 2 + Curve::MAX_STEPS + i);
+        steps[i] = Step { end, price };
+        i += 1;
+    }
+    Curve {
+        start: cells::whole_at(s, 1),
+        count: cells::whole_at(s, 0) as usize,
+        steps,
     }
 }
 
@@ -230,21 +306,9 @@ pub fn default_curve(costs: Costs) -> Checked
     ensures number { λ r. ⌜ outcomeNumber (r .outcome) ≡ costRefusal costs ⌝ }
     ensures curve { λ r. ⌜ r .curve ≡ unlessRefused (costRefusal costs) (costCurve costs) ⌝ }
 {
-    let n = costs.count;
-    if n < Costs::MIN_POINTS {
-        return curve::refused(Refusal::PointCount);
-    }
-    if Costs::MAX_POINTS < n {
-        return curve::refused(Refusal::PointCount);
-    }
-    if !quantities_good(costs) {
-        return curve::refused(Refusal::Quantity);
-    }
-    if !heats_good(costs) {
-        return curve::refused(Refusal::HeatRate);
-    }
-    if !prices_good(costs) {
-        return curve::refused(Refusal::CostRange);
-    }
-    stepped(costs)
+    let default = default_cells(costs);
+    let outcome = default.outcome;
+    let cells = default.cells;
+    let curve = curve_in(&cells);
+    Checked { outcome, curve }
 }

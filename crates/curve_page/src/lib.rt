@@ -1,4 +1,5 @@
 // The curves of a page (paper 01, Text), from the hour that a lent slice of numbers stands for. The contracts cite the definitions of rules_page and rules_state.
+use page::printable;
 use rules_interval::Interval;
 use rules_mitigation::Mitigated;
 use rules_text::Printed;
@@ -20,16 +21,6 @@ ghost use Rattle.rules_state.specs.States.{rowsIn, standingIn};
 
 // The lines of one curve are put where at least this many bytes are left.
 pub const LINES_ROOM: usize = 1680;
-
-// A quantity as it is printed.
-fn printable(n: u64) -> i64
-    ensures { λ r. ⌜ r ≡ pos (printableOf n) ⌝ }
-{
-    if n < 9_223_372_036_854_775_807 {
-        return n as i64;
-    }
-    9_223_372_036_854_775_807
-}
 
 // Puts a line of four values at an offset, and answers the offset after it.
 fn put_four(out: &mut [u8], at: usize, i: u64, r: u64, end: i64, price: i64) -> usize

@@ -1,78 +1,44 @@
--- Cuts and weights in cells. Assumes nothing.
-use mathlib.Core.Bool.{Bool, true, false}
-use mathlib.Core.List.{List}
+-- Cuts in cells. Assumes nothing.
+use mathlib.Core.Bool.{Bool, true, false, cond}
+use mathlib.Core.List.{List, [], _∷_, _++_, flatMap}
 use mathlib.Core.Path.{_≡_, refl, sym, ap, ap₂, _∙_}
-use Prim.Native.Nat.{ℕ, zero, suc, _+_, _-_, _*_, _≤_, _<_, min}
+use Prim.Native.Nat.{ℕ, zero, suc, _+_, _≤_, _<_}
+use borrow.Author.Tests.{lt-ltb, le-ltb}
 use native.Mathlib.Numerals.{add-one}
 use native.Mathlib.Omega.{arith}
-use mathlib.Core.Logic.{⊎-elim}
-use lib.IntN.{ℤ, pos, negsuc, _+ℤ_, _*ℤ_, +ℤ-idr}
-use lib.ListN.{length, getD, set, List·getD-eq-default}
+use lib.Dec.{ltb}
+use lib.IntN.{ℤ, pos, negsuc, negℤ, _*ℤ_}
+use lib.ListN.{length, set, replicate}
 use lib.Seq.{sets}
 use Rattle.rules_number.specs.Order.{minZ}
-use Rattle.rules_number.specs.Over.{padded}
-use Rattle.rules_number.proofs.Kit.{var, lit, mul, eq-by}
-use Rattle.rules_number.proofs.OverLaws.{le-or-lt, listed-at, listed-same}
+use Rattle.rules_number.specs.Over.{sumOver, listed}
 use Rattle.rules_mitigation.specs.Mitigation.{lowered}
 use Rattle.rules_mitigation.specs.declared.FloorPrice.{FloorPrice}
 use Rattle.rules_mitigation.specs.declared.FloorPrice.the-variants.{Cut}
-use Rattle.rules_interval.specs.Intervals.{cell, dispatchAt, lmpAt, intervalRefusal}
+use Rattle.rules_interval.specs.Intervals.{cell, dispatchAt, lmpAt, shadowAt, factorAt, intervalRefusal}
 use Rattle.rules_interval.specs.declared.Interval.{Interval}
 use Rattle.rules_interval.proofs.IntervalLaws.{in-limits}
 use Rattle.rules_library.specs.Slices.{cellAt}
-use Rattle.rules_state.specs.Layout.{mostResources, marketFrom}
-use Rattle.rules_state.specs.States.{floorOf, priceOf}
-use Rattle.rules_state.specs.Takes.{ifAccepted, cutCell, cutsBy, cutsTo}
-use Rattle.rules_path.specs.Judgements.{pathIn, verdictsOf}
-use Rattle.rules_path.specs.Verdicts.{findingNumber, verdictOf}
-use Rattle.rules_path.specs.declared.Finding.{Finding}
-use Rattle.rules_path.specs.declared.Finding.the-variants.{Competitive, NonCompetitive, NotBinding}
+use Rattle.rules_path.specs.Judgements.{pathIn}
+use Rattle.rules_path.specs.Paths.{isNonCompetitive}
 use Rattle.rules_path.specs.declared.Market.{Market}
-use Rattle.rules_path.specs.declared.Verdict.{Verdict}
-use Rattle.rules_hour.specs.Cuts.{cutBy, cutOf}
-use Rattle.rules_state.specs.Verdicts.{findingBy, verdictIn, verdictsIn, judgedCells}
+use Rattle.rules_hour.specs.Cuts.{competitivePrice, cutBy, cutOf, entering, component}
+use Rattle.rules_state.specs.Layout.{mostResources, marketFrom, causeWidth}
+use Rattle.rules_state.specs.States.{floorOf, markOf, priceOf}
+use Rattle.rules_state.specs.Causes.{causeOf, causeAt, causesCells}
+use Rattle.rules_state.specs.Takes.{ifAccepted, cutCell, cutsBy, cutsTo}
+use Rattle.rules_state.specs.Verdicts.{judgedCells}
 use Rattle.rules_state.proofs.TakeLaws.{written-zero}
 use Rattle.rules_state.proofs.WrittenSlices.{judged-finding}
-use Rattle.cutting.specs.Weights.{weight, noVerdict, weightsOf, weighed, weighedCut, sumToZ}
-use Rattle.cutting.specs.Places.{cutsFrom}
-use Rattle.cutting.proofs.WeightLaws.{verdict-at, weighed-is}
+use Rattle.cutting.specs.Entering.{entersBy, enteringIn, componentOver, cutOver, causeOver}
+use Rattle.cutting.specs.Places.{countAt}
+use Rattle.cutting.proofs.EnteringLaws.{enters-is, entering-same}
 
--- ---- a factor past the end of its slice adds nothing
-zero-times : (x : ℤ) → pos 0 *ℤ x ≡ pos 0
-zero-times x = eq-by (mul (lit 0) (var x)) (lit 0) (omega arith)
-
--- the terms from k on are 0
-sum-cut : (f : ℕ → ℤ) (k n : ℕ) → k ≤ n → ((i : ℕ) → k ≤ i → f i ≡ pos 0) → sumToZ f k ≡ sumToZ f n
-unfolding sumToZ
-sum-cut f k zero h z = let e : k ≡ 0 = omega arith in rw e
-sum-cut f k (suc n) h z = ⊎-elim
-    (λ l. sum-cut f k n l z ∙ sym (ap (λ (x : ℤ). sumToZ f n +ℤ x) (z n l) ∙ +ℤ-idr (sumToZ f n)))
-    (λ l. let e : k ≡ suc n = omega arith in rw e)
-    (le-or-lt k n)
-
-pub reached-sum : (factors weights : List ℤ) (row m : ℕ)
-    → sumToZ (λ c. cell factors (row + c) *ℤ cell weights c) (min m (length factors - row)) ≡ sumToZ (λ c. cell factors (row + c) *ℤ cell weights c) m
-reached-sum factors weights row m = ⊎-elim
-    (λ l. let e : min m (length factors - row) ≡ m = omega arith in rw e)
-    (λ l. sum-cut (λ c. cell factors (row + c) *ℤ cell weights c) (min m (length factors - row)) m (omega arith)
-    (λ i h. ap (λ (x : ℤ). x *ℤ cell weights i) (List·getD-eq-default factors (pos 0) (omega arith)) ∙ zero-times (cell weights i)))
-    (le-or-lt m (length factors - row))
-
--- ---- a finding, and a mark, by their numbers
-pub no-weight : (finding shadow : ℤ) → (finding ≡ pos 1 → ⊥) → weight (findingBy finding) shadow ≡ pos 0
-no-weight (pos zero) shadow h = refl
-no-weight (pos (suc zero)) shadow h = absurd (h refl)
-no-weight (pos (suc (suc n))) shadow h = refl
-no-weight (negsuc n) shadow h = refl
-
+-- ---- a mark by its number
 pub lower-marked : (mark before price : ℤ) → (mark ≡ pos 0 → ⊥) → priceOf (lowered (floorOf mark before .price) (Cut price)) ≡ minZ before price
 lower-marked (pos zero) before price h = absurd (h refl)
 lower-marked (pos (suc n)) before price h = refl
 lower-marked (negsuc n) before price h = refl
-
-pub finding-in : (l : List ℤ) (c : ℕ) → c < 32 → getD (verdictsIn l) c noVerdict .finding ≡ findingBy (cell l (20 * c))
-unfolding verdictsIn verdictIn
-finding-in l c h = ap (λ (x : Verdict). x .finding) (listed-at (verdictIn l) noVerdict 32 c h)
 
 -- ---- a cut
 pub cut-made : (from r : ℕ) (price : ℤ) (l next last : List ℤ) (mark before left : ℤ) → mark ≡ cellAt l (from + r) → before ≡ cellAt l (from + mostResources + r)
@@ -91,49 +57,97 @@ pub cuts-next : (f : ℕ → FloorPrice) (from r : ℕ) (l next : List ℤ) (cut
 unfolding cutsBy
 cuts-next f from r l next cut c e = rw (add-one r, e, c)
 
--- ---- the weights of an interval's constraints, from the cells that its verdicts were put into
-finding-back : (f : Finding) → findingBy (pos (findingNumber f)) ≡ f
-finding-back Competitive = refl
-finding-back NonCompetitive = refl
-finding-back NotBinding = refl
+-- blocks that are the same
+flat-same : {A B : Type 0} (f g : A → List B) (l : List A) → ((x : A) → f x ≡ g x) → flatMap f l ≡ flatMap g l
+unfolding flatMap
+flat-same f g [] h = refl
+flat-same f g (x ∷ l) h = ap (λ (a : List _). a ++ flatMap f l) (h x) ∙ ap (λ (a : List _). g x ++ a) (flat-same f g l h)
 
+-- ---- the cuts of an interval, by the list of the constraints that enter
 module _ (m : Market) (v : Interval) (w : List ℤ) (few : v .constraints ≤ 32) (room : length w ≡ 640) where
-  abbrev written : List ℤ
-  written = sets w 0 (judgedCells m v)
+  abbrev listing : List ℕ
+  listing = enteringIn (sets w 0 (judgedCells m v)) (v .constraints)
 
-  finding-same : (c : ℕ) → c < v .constraints → getD (verdictsIn written) c noVerdict .finding ≡ getD (verdictsOf m v) c noVerdict .finding
-  finding-same c h =
-      finding-in written c (omega arith) ∙ ap findingBy (judged-finding m v w few (omega arith) c h) ∙ finding-back (verdictOf (pathIn m v c) .finding)
-      ∙ sym (ap (λ (x : Verdict). x .finding) (verdict-at m v c h))
+  -- the verdicts that were put list those that enter
+  entering-are : listing ≡ entering m v
+  unfolding entering
+  entering-are =
+      entering-same (sets w 0 (judgedCells m v)) (λ c. isNonCompetitive (pathIn m v c)) (v .constraints)
+      (λ c h. ap entersBy (judged-finding m v w few (omega arith) c h) ∙ enters-is (pathIn m v c))
 
-  pub weights-same : weightsOf (v .shadow) (verdictsIn written) (v .constraints) ≡ weightsOf (v .shadow) (verdictsOf m v) (v .constraints)
-  unfolding weightsOf
-  weights-same =
-      ap (padded 32 (pos 0)) (listed-same (λ c. weight (getD (verdictsIn written) c noVerdict .finding) (cell (v .shadow) c)) (λ c. weight (getD (verdictsOf m v) c noVerdict .finding) (cell (v .shadow) c)) (v .constraints)
-      (λ c h. ap (λ (f : Finding). weight f (cell (v .shadow) c)) (finding-same c h)))
+  component-is : (r : ℕ) → componentOver (v .factors) (v .shadow) listing r ≡ component m v r
+  unfolding componentOver component
+  component-is r = ap (λ (l : List ℕ). negℤ (sumOver (λ c. factorAt v r c *ℤ shadowAt v c) l)) entering-are
 
-  -- the cuts by these weights are the interval's
-  pub cuts-are : (from n : ℕ) (l : List ℤ)
-      → cutsBy (weighedCut (v .lmp) (v .dispatch) (v .factors) (v .parameter) (weightsOf (v .shadow) (verdictsIn written) (v .constraints)) (v .constraints)) from n l ≡ cutsTo m v from n l
+  cuts-are : (from n : ℕ) (l : List ℤ) → cutsBy (cutOver (v .lmp) (v .dispatch) (v .factors) (v .shadow) listing (v .parameter)) from n l ≡ cutsTo m v from n l
   unfolding cutOf
   cuts-are from n l =
-      cuts-same (weighedCut (v .lmp) (v .dispatch) (v .factors) (v .parameter) (weightsOf (v .shadow) (verdictsIn written) (v .constraints)) (v .constraints)) (cutOf m v) from n l
-      (λ r. ap (λ (x : List ℤ). cutBy (dispatchAt v r) (lmpAt v r) (weighed (v .factors) x r (v .constraints)) (v .parameter)) weights-same
-      ∙ ap (λ (z : ℤ). cutBy (dispatchAt v r) (lmpAt v r) z (v .parameter)) (weighed-is m v r))
+      cuts-same (cutOver (v .lmp) (v .dispatch) (v .factors) (v .shadow) listing (v .parameter)) (cutOf m v) from n l
+      (λ r. ap (λ (z : ℤ). cutBy (dispatchAt v r) (lmpAt v r) z (v .parameter)) (component-is r))
 
--- ---- an interval that none of 13 to 16 refuses
-pub taken-cells : (m : Market) (v : Interval) (w verdicts weights l last : List ℤ) (from : ℕ) → intervalRefusal (m .resources) v ≡ 0 → length w ≡ 640
-    → verdicts ≡ ifAccepted (intervalRefusal (m .resources) v) (sets w 0 (judgedCells m v)) w → weights ≡ weightsOf (v .shadow) (verdictsIn verdicts) (v .constraints)
-    → last ≡ cutsBy (weighedCut (v .lmp) (v .dispatch) (v .factors) (v .parameter) weights (v .constraints)) from (v .resources) l
-    → last ≡ ifAccepted (intervalRefusal (m .resources) v) (cutsTo m v from (m .resources) l) l
-taken-cells m v w verdicts weights l last from sound room a b c =
-    let i = in-limits (m .resources) v sound in
-    let n : v .resources ≡ m .resources = i .count in
-    let f : ℕ → List ℤ → List ℤ = λ k y. cutsBy (weighedCut (v .lmp) (v .dispatch) (v .factors) (v .parameter) y (v .constraints)) from k l in
-    let e : weights ≡ weightsOf (v .shadow) (verdictsIn (sets w 0 (judgedCells m v))) (v .constraints) =
-    b ∙ ap (λ (y : List ℤ). weightsOf (v .shadow) (verdictsIn y) (v .constraints)) (a ∙ written-zero (intervalRefusal (m .resources) v) (sets w 0 (judgedCells m v)) w sound) in
-    c ∙ ap₂ f n e ∙ cuts-are m v w (i .constraints) room from (m .resources) l ∙ sym (written-zero (intervalRefusal (m .resources) v) (cutsTo m v from (m .resources) l) l sound)
+  -- and the causes
+  cause-is : (r : ℕ) → causeOver (m .resources) (v .lmp) (v .dispatch) (v .factors) (v .shadow) listing (v .parameter) r ≡ causeAt m v r
+  unfolding causeOver causeAt causeOf cutOf
+  cause-is r =
+      ap (λ (z : ℤ). cond (ltb r (m .resources)) (markOf (cutBy (dispatchAt v r) (lmpAt v r) z (v .parameter)) ∷ z ∷ competitivePrice (lmpAt v r) z ∷ priceOf (cutBy (dispatchAt v r) (lmpAt v r) z (v .parameter)) ∷ []) (replicate causeWidth (pos 0)))
+      (component-is r)
 
-pub cuts-low : (pass : Bool) → cutsFrom pass ≤ marketFrom
-cuts-low true = omega arith
-cuts-low false = omega arith
+  causes-are : flatMap (causeOver (m .resources) (v .lmp) (v .dispatch) (v .factors) (v .shadow) listing (v .parameter)) (listed (λ r. r) mostResources) ≡ causesCells m v
+  unfolding causesCells
+  causes-are = flat-same (causeOver (m .resources) (v .lmp) (v .dispatch) (v .factors) (v .shadow) listing (v .parameter)) (causeAt m v) (listed (λ r. r) mostResources) cause-is
+
+-- ---- an interval that none of 13 to 16 refuses: its verdicts stand at the front of w
+module _ (m : Market) (v : Interval) (w verdicts : List ℤ) (list : List ℕ) (sound : intervalRefusal (m .resources) v ≡ 0) (room : length w ≡ 640)
+    (a : verdicts ≡ ifAccepted (intervalRefusal (m .resources) v) (sets w 0 (judgedCells m v)) w) (b : list ≡ enteringIn verdicts (v .constraints)) where
+  same-list : list ≡ enteringIn (sets w 0 (judgedCells m v)) (v .constraints)
+  same-list = b ∙ ap (λ (y : List ℤ). enteringIn y (v .constraints)) (a ∙ written-zero (intervalRefusal (m .resources) v) (sets w 0 (judgedCells m v)) w sound)
+
+  same-count : v .resources ≡ m .resources
+  same-count = in-limits (m .resources) v sound .count
+
+  few-constraints : v .constraints ≤ 32
+  few-constraints = in-limits (m .resources) v sound .constraints
+
+  pub taken-cells : (l : List ℤ) (from : ℕ) → cutsBy (cutOver (v .lmp) (v .dispatch) (v .factors) (v .shadow) list (v .parameter)) from (v .resources) l ≡ cutsTo m v from (m .resources) l
+  taken-cells l from =
+      ap₂ (λ (k : ℕ) (y : List ℕ). cutsBy (cutOver (v .lmp) (v .dispatch) (v .factors) (v .shadow) y (v .parameter)) from k l) same-count same-list ∙ cuts-are m v w few-constraints room from (m .resources) l
+
+  pub taken-causes : flatMap (causeOver (v .resources) (v .lmp) (v .dispatch) (v .factors) (v .shadow) list (v .parameter)) (listed (λ r. r) mostResources) ≡ causesCells m v
+  taken-causes =
+      ap₂ (λ (k : ℕ) (y : List ℕ). flatMap (causeOver k (v .lmp) (v .dispatch) (v .factors) (v .shadow) y (v .parameter)) (listed (λ r. r) mostResources)) same-count same-list ∙ causes-are m v w few-constraints room
+
+pub count-low : (pass : Bool) → countAt pass + 1 ≤ marketFrom
+count-low true = omega arith
+count-low false = omega arith
+
+-- ---- the numbers of a cause
+module _ (n : ℕ) (lmp dispatch factors shadow : List ℤ) (l : List ℕ) (parameter : ℤ) (r : ℕ) where
+  abbrev c : ℤ
+  c = componentOver factors shadow l r
+
+  abbrev cut : FloorPrice
+  cut = cutOver lmp dispatch factors shadow l parameter r
+
+  pub cause-room : length (causeOver n lmp dispatch factors shadow l parameter r) ≡ causeWidth
+  unfolding causeOver
+  cause-room = go (ltb r n)
+    where
+      go : (t : Bool) → length (cond t (markOf cut ∷ c ∷ competitivePrice (cell lmp r) c ∷ priceOf cut ∷ []) (replicate causeWidth (pos 0))) ≡ causeWidth
+      go true = refl
+      go false = refl
+
+  pub cause-there : r < n → (mark component competitive price : ℤ) → mark ≡ markOf cut → component ≡ c → competitive ≡ competitivePrice (cell lmp r) c → price ≡ priceOf cut
+      → mark ∷ component ∷ competitive ∷ price ∷ [] ≡ causeOver n lmp dispatch factors shadow l parameter r
+  unfolding causeOver
+  cause-there h mark component competitive price e f g k = rw (lt-ltb r n h, e, f, g, k)
+
+  pub no-cause : n ≤ r → replicate causeWidth (pos 0) ≡ causeOver n lmp dispatch factors shadow l parameter r
+  unfolding causeOver
+  no-cause h = rw (le-ltb r n h)
+
+pub four-put : (s one two three out : List ℤ) (at : ℕ) (a b c d : ℤ) → one ≡ set s at a → two ≡ set one (at + 1) b → three ≡ set two (at + 2) c → out ≡ set three (at + 3) d → out ≡ sets s at (a ∷ b ∷ c ∷ d ∷ [])
+four-put s one two three out at a b c d e f g h =
+    let x : at + 1 ≡ suc at = omega arith in
+    let y : at + 2 ≡ suc (suc at) = omega arith in
+    let z : at + 3 ≡ suc (suc (suc at)) = omega arith in
+    rw (h, g, f, e, x, y, z)

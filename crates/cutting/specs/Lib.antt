@@ -1,4 +1,3 @@
 -- Definitions that the contracts of the crate cite.
-pub mod Weights
-pub mod Causes
+pub mod Entering
 pub mod Places

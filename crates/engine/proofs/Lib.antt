@@ -1,2 +1,3 @@
--- What the decoding of an hour means.
-pub mod Decoding
+-- Laws of the hour that cells stand for, and of verdicts read back from cells.
+pub mod HourLaws
+pub mod VerdictsBack

@@ -5,7 +5,11 @@ ghost use Rattle.rules_curve.specs.Refusals.{outcomeNumber};
 ghost use Rattle.rules_opening.specs.Openings.{openingRefusal};
 ghost use Rattle.rules_hour.specs.Hours.{curveIn, hourRefusal, hourVerdicts};
 ghost use Rattle.rules_pass.specs.Passes.{blankRealTime, openedRealTime, intervalAfter, passRefusal, passAfter, passVerdicts, fiveMinuteIn};
+ghost use Rattle.rules_path.specs.Judgements.{verdictsOf, verdictsUnless};
 ghost use Rattle.rules_hour_bid.specs.HourBids.{hourBidRefusal, hourBidOf};
+ghost use Rattle.rules_state.specs.States.{marketIn};
+ghost use Rattle.rules_state.specs.Takes.{ifAccepted};
+ghost use Rattle.hour_cells.specs.Calls.{refusalBy, writtenBy};
 ghost use Rattle.engine.specs.Hours.{asHour, asRealTime};
 use rules_curve::Outcome;
 use rules_curve::Refusal;
@@ -14,17 +18,12 @@ use rules_hour_bid::HourBid;
 use rules_interval::Interval;
 use rules_mitigation::Mitigated;
 use rules_opening::Opening;
-use rules_opening::Row;
 use rules_pass::Quarter;
-use rules_path::Market;
 use rules_path::Verdict;
 
-// An hour: who owns what, its resources, its standing, and the quarter hour that runs.
+// An hour, as the cells of rules_state: its standing, the quarter hour that runs, who owns what, and its resources. Every content of them has a meaning.
 pub struct Hour {
-    pub market: Market,
-    pub rows: [Row; Hour::MAX_RESOURCES],
-    pub standing: Standing,
-    pub quarter: Quarter,
+    pub cells: [i64; rules_state::STATE_ROOM],
 }
 
 impl Hour {
@@ -54,14 +53,7 @@ impl Hour {
         ensures { λ r. ⌜ asRealTime r ≡ blankRealTime ⌝ }
     {
         Hour {
-            market: Market {
-                resources: 0,
-                portfolio: [0; Hour::MAX_RESOURCES],
-                seller: [0; Market::MAX_PORTFOLIOS],
-            },
-            rows: [resource::blank_row(); Hour::MAX_RESOURCES],
-            standing: standing::fresh(),
-            quarter: standing::fresh_quarter(),
+            cells: [0i64; rules_state::STATE_ROOM],
         }
     }
 
@@ -70,18 +62,29 @@ impl Hour {
         ensures number { λ r. ⌜ outcomeNumber (r .outcome) ≡ openingRefusal o ⌝ }
         ensures hour { λ r. ⌜ asRealTime (r .hour) ≡ openedRealTime o ⌝ }
     {
-        let entered = opening::entered(o);
-        let outcome = entered.outcome;
-        let market = entered.market;
-        let rows = entered.rows;
+        let sellers = o.sellers;
+        let list = o.list;
+        let mut blocks = [0i64; opening_puts::BLOCKS_ROOM];
+        opening_puts::put_blocks(&mut blocks, list);
+        let mut cells = [0i64; rules_state::STATE_ROOM];
+        let month = o.month;
+        let outcome = opening_cells::open_into(
+            month,
+            o.portfolios,
+            &sellers,
+            o.resources,
+            &blocks,
+            &mut cells,
+        );
+        let Outcome::Accepted = outcome else {
+            return Opened {
+                outcome: outcome,
+                hour: Hour::blank(),
+            };
+        };
         Opened {
             outcome: outcome,
-            hour: Hour {
-                market: market,
-                rows: rows,
-                standing: standing::fresh(),
-                quarter: standing::fresh_quarter(),
-            },
+            hour: Hour { cells },
         }
     }
 
@@ -89,30 +92,16 @@ impl Hour {
     pub fn curve(self, r: usize) -> Mitigated
         ensures { λ x. ⌜ x ≡ curveIn (asHour self) r ⌝ }
     {
-        let standing = self.standing;
-        if r < Hour::MAX_RESOURCES {
-            let row = self.rows[r];
-            let floor = standing.floors[r];
-            standing::row_curve(row, floor)
-        } else {
-            standing::blank_curve()
-        }
+        let cells = self.cells;
+        hour_cells::present_in(&cells, r)
     }
 
     // The five-minute curve of resource r, from the passes since the last accepted interval: a blank one where the hour has no such resource.
     pub fn five_minute(self, r: usize) -> Mitigated
         ensures { λ x. ⌜ x ≡ fiveMinuteIn (asRealTime self) r ⌝ }
     {
-        if Hour::MAX_RESOURCES <= r {
-            return standing::blank_curve();
-        }
-        let standing = self.standing;
-        let quarter = self.quarter;
-        let row = self.rows[r];
-        let floor = standing.floors[r];
-        let lowest = quarter.floors[r];
-        let price = lowest.price;
-        standing::row_curve(row, standing::cut_floor(floor, price))
+        let cells = self.cells;
+        hour_cells::five_minute_in(&cells, r)
     }
 
     // The bid of resource r for the hour, or 20 where fewer than four intervals are accepted: a blank one where the hour has no such resource.
@@ -120,8 +109,8 @@ impl Hour {
         ensures number { λ x. ⌜ outcomeNumber (x .outcome) ≡ hourBidRefusal (asRealTime self) ⌝ }
         ensures curve { λ x. ⌜ x .curve ≡ hourBidOf (asRealTime self) r ⌝ }
     {
-        let standing = self.standing;
-        if standing.accepted < Hour::MAX_INTERVALS {
+        let cells = self.cells;
+        if cells::whole_at(&cells, 0) < Hour::MAX_INTERVALS {
             return HourBid {
                 outcome: Outcome::Refused(Refusal::HourOpen),
                 curve: standing::blank_curve(),
@@ -129,7 +118,37 @@ impl Hour {
         }
         HourBid {
             outcome: Outcome::Accepted,
-            curve: self.curve(r),
+            curve: hour_cells::present_in(&cells, r),
+        }
+    }
+
+    // A pass, or an interval, taken in the cells of this hour.
+    fn called(self, pass: bool, v: Interval) -> Answer
+        ensures number { λ r. ⌜ outcomeNumber (r .outcome) ≡ refusalBy pass (self .cells) v ⌝ }
+        ensures hour { λ r. ⌜ r .hour .cells ≡ ifAccepted (refusalBy pass (self .cells) v) (writtenBy pass (self .cells) v) (self .cells) ⌝ }
+        ensures verdicts { λ r. ⌜ r .verdicts ≡ verdictsUnless (refusalBy pass (self .cells) v) (verdictsOf (marketIn (self .cells)) v) ⌝ }
+    {
+        let mut cells = self.cells;
+        let mut found = taking::none_found();
+        let parameter = v.parameter;
+        let outcome = hour_cells::call_into(
+            &mut cells,
+            pass,
+            v.constraints,
+            &v.shadow,
+            v.resources,
+            &v.lmp,
+            &v.dispatch,
+            &v.available,
+            &v.floor,
+            &v.factors,
+            parameter,
+            &mut found,
+        );
+        Answer {
+            outcome: outcome,
+            hour: Hour { cells },
+            verdicts: verdict_cells::verdicts_in(&found),
         }
     }
 
@@ -139,24 +158,7 @@ impl Hour {
         ensures hour { λ r. ⌜ asRealTime (r .hour) ≡ intervalAfter (asRealTime self) v ⌝ }
         ensures verdicts { λ r. ⌜ r .verdicts ≡ hourVerdicts (asHour self) v ⌝ }
     {
-        let market = self.market;
-        let rows = self.rows;
-        let standing = self.standing;
-        let quarter = self.quarter;
-        let taken = taking::take_interval(standing, market, v);
-        let outcome = taken.outcome;
-        let verdicts = taken.verdicts;
-        let left = taken.standing;
-        Answer {
-            outcome: outcome,
-            hour: Hour {
-                market: market,
-                rows: rows,
-                standing: left,
-                quarter: standing::begun(outcome, quarter),
-            },
-            verdicts: verdicts,
-        }
+        self.called(false, v)
     }
 
     // A five-minute pass: the hour with its quarter hour cut once more and the verdicts, or 19, or the lowest of refusals 13 to 16 that applies, and the hour as it was.
@@ -165,23 +167,6 @@ impl Hour {
         ensures hour { λ r. ⌜ asRealTime (r .hour) ≡ passAfter (asRealTime self) v ⌝ }
         ensures verdicts { λ r. ⌜ r .verdicts ≡ passVerdicts (asRealTime self) v ⌝ }
     {
-        let market = self.market;
-        let rows = self.rows;
-        let standing = self.standing;
-        let quarter = self.quarter;
-        let passed = taking::take_pass(quarter, standing.accepted, market, v);
-        let outcome = passed.outcome;
-        let verdicts = passed.verdicts;
-        let left = passed.quarter;
-        Answer {
-            outcome: outcome,
-            hour: Hour {
-                market: market,
-                rows: rows,
-                standing: standing,
-                quarter: left,
-            },
-            verdicts: verdicts,
-        }
+        self.called(true, v)
     }
 }

@@ -1,4 +1,4 @@
--- Laws of factors: declared ids, the order of places, the factor of a line, and the table read by a loop. Assumes nothing.
+-- Laws of factors: declared ids, places, the factor of a line, and a row of factors read by a loop. Assumes nothing.
 use Prim.Native.Nat.{ℕ, suc, _+_, _*_, _≤_, _<_}
 use mathlib.Core.Path.{_≡_, refl, sym, ap, _∙_}
 use mathlib.Core.List.{List, [], _∷_, map}
@@ -7,79 +7,155 @@ use mathlib.Core.Bool.{Bool, true, false, cond, _&&_}
 use mathlib.Core.Logic.{⊎-elim}
 use native.Mathlib.Omega.{arith}
 use native.Mathlib.Nat.{suc-mul, mul-le-mul-right}
-use borrow.Author.Tests.{le-leb, lt-leb}
+use borrow.Author.Tests.{le-leb, lt-leb, lt-ltb, leb-true}
 use lib.Dec.{leb, ltb}
 use lib.ListN.{length, length-set}
 use lib.Seq.{sets}
-use lib.IntN.{ℤ}
-use Rattle.rules_number.specs.Order.{natOf}
+use lib.IntN.{ℤ, pos, negsuc, natAbs}
+use lib.Signed.{ltZ}
+use Rattle.rules_number.specs.Order.{natOf, eqZ}
+use Rattle.rules_number.proofs.OrderLaws.{eqZ-true, eqZ-same}
 use Rattle.rules_number.proofs.OverLaws.{never, both, le-or-lt}
 use Rattle.rules_text.specs.Numbers.{Line, Row, lines, row}
-use Rattle.rules_text.specs.Tables.{cell, ifSuits, run}
-use Rattle.rules_text.specs.Offsets.{lineAt, asRow, rowOf, rowAt}
+use Rattle.rules_text.specs.Tables.{cell, hasId, ifSuits, run}
+use Rattle.rules_text.specs.Offsets.{lineAt, asRow, rowOf}
 use Rattle.rules_text.proofs.LineLaws.{line, after, lines-cons, lines-some}
 use Rattle.rules_text.proofs.TableLaws.{row-there, Loop, turns}
-use Rattle.rules_parts.specs.Parts.{isDeclared, place, placeOf, isFactor, factorCell, factorRows, withFactor, withFactors}
+use Rattle.rules_parts.specs.Parts.{isDeclared, place, placeOf, isFactor, factorCell, withFactor, withFactors}
 use Rattle.rules_parts.proofs.DeclaredLaws.{declared-below}
 use Rattle.factor_table.specs.Factors.{asFactor}
 use Rattle.factor_table.specs.declared.Factor.{Factor}
 
+-- ---- declared ids
+pub declared-at : (n : ℕ) (z : ℤ) → isDeclared n z ≡ true → (b : ℕ) → isDeclared b z ≡ ltb (natOf z) b
+unfolding isDeclared
+declared-at n (pos k) e b = simp (le-leb 0 k (omega arith))
+declared-at n (negsuc k) e b = never e
+
+pub declared-in : (n k : ℕ) → k < n → isDeclared n (pos k) ≡ true
+unfolding isDeclared
+declared-in n k h = simp (le-leb 0 k (omega arith), lt-ltb k n h)
+
+-- a value that is not below 0, as a natural number
+pub natural : (z : ℤ) → ltZ z (pos 0) ≡ false → natAbs z ≡ natOf z
+natural (pos k) e = refl
+natural (negsuc k) e = never (sym e)
+
 -- ---- places
-module _ (m r c x y : ℕ) (width : c ≤ m) (inside : y < m) where
-  pub comes-before : x < r → false ≡ leb (place m r c) (place m x y)
-  comes-before h =
+module _ (m r c : ℕ) where
+  -- a factor of an earlier resource comes before
+  pub comes-before : (x y : ℕ) → x < r → y < m → place m x y < place m r 0
+  comes-before x y h inside =
       let p : suc x * m ≤ r * m = mul-le-mul-right m h in
       let q = suc-mul x m in
-      sym (lt-leb (r * m + c) (x * m + y) (omega arith))
+      omega arith
 
-  pub comes-after : r < x → true ≡ leb (place m r c) (place m x y)
-  comes-after h =
-      let p : suc r * m ≤ x * m = mul-le-mul-right m h in
-      let q = suc-mul r m in
-      sym (le-leb (r * m + c) (x * m + y) (omega arith))
-
-  pub comes-same : r ≡ x → leb c y ≡ leb (place m r c) (place m x y)
-  comes-same e =
-      let p : r * m ≡ x * m = ap (λ (z : ℕ). z * m) e in
-      ⊎-elim (λ h. le-leb c y h ∙ sym (le-leb (r * m + c) (x * m + y) (omega arith))) (λ h. lt-leb c y h ∙ sym (lt-leb (r * m + c) (x * m + y) (omega arith))) (le-or-lt c y)
+  -- one of the same resource comes where its constraint does
+  pub comes-same : (y : ℕ) → leb (place m r c) (place m r y) ≡ leb c y
+  comes-same y =
+      ⊎-elim (λ h. le-leb (r * m + c) (r * m + y) (omega arith) ∙ sym (le-leb c y h)) (λ h. lt-leb (r * m + c) (r * m + y) (omega arith) ∙ sym (lt-leb c y h)) (le-or-lt c y)
 
 -- ---- the factor of a line
 -- the row of a line of 1 to 8 values
-pub row-of : (s : List ℕ) (p k : ℕ) → (leb 1 k && leb k 8) ≡ true → rowAt s p k ≡ asRow (p + length (lineAt s p)) (row k (lineAt s p))
+pub row-of : (which : Option Row → Option Row) (s : List ℕ) (p k : ℕ) → (leb 1 k && leb k 8) ≡ true → rowOf which s p k ≡ asRow (p + length (lineAt s p)) (which (row k (lineAt s p)))
 unfolding rowOf
-row-of s p k e = rw e refl
+row-of which s p k e = rw e refl
 
-module _ (next : ℕ) (suits : Row → Bool) (o : Option Row) where
-  pub no-row : o ≡ none → asFactor 0 none ≡ asFactor next (ifSuits suits o)
-  no-row e = rw e refl
+module _ (suits : Row → Bool) where
+  suits-by : (x y : Row) (b : Bool) → suits y ≡ b → cond b (some y) none ≡ some x → (y ≡ x) × (suits x ≡ true)
+  suits-by x y true q e = let z : y ≡ x = cc in (z, ap suits (sym z) ∙ q)
+  suits-by x y false q e = let z : _≡_ {A = ℕ} 0 1 = cc in absurd (omega arith)
 
-  pub unsuited : (x : Row) → o ≡ some x → suits x ≡ false → asFactor 0 none ≡ asFactor next (ifSuits suits o)
-  unsuited x e q = rw (e, q) refl
+  -- a row that suits is there
+  pub suits-of : (o : Option Row) (x : Row) → ifSuits suits o ≡ some x → (o ≡ some x) × (suits x ≡ true)
+  suits-of none x e = let z : _≡_ {A = ℕ} 0 1 = cc in absurd (omega arith)
+  suits-of (some y) x e = let h = suits-by x y (suits y) refl e in (ap some (h .0), h .1)
 
-  pub suited : (x : Row) → o ≡ some x → suits x ≡ true → asFactor next (some x) ≡ asFactor next (ifSuits suits o)
-  suited x e q = rw (e, q) refl
+  pub suited : (o : Option Row) (x : Row) → o ≡ some x → suits x ≡ true → ifSuits suits o ≡ some x
+  suited o x e q = rw (e, q) refl
 
-module _ (n m i : ℕ) (x : Row) where
-  pub factor-undeclared : isDeclared n (cell 0 x) ≡ false → isFactor n m i x ≡ false
+  unsuited-by : (y : Row) (b : Bool) → suits y ≡ b → cond b (some y) none ≡ none → suits y ≡ false
+  unsuited-by y true q e = let z : _≡_ {A = ℕ} 0 1 = cc in absurd (omega arith)
+  unsuited-by y false q e = q
+
+  -- one that does not suit fails
+  pub fails : (x : Row) → ifSuits suits (some x) ≡ none → suits x ≡ false
+  fails x e = unsuited-by x (suits x) refl e
+
+  pub unsuited : (o : Option Row) (x : Row) → o ≡ some x → suits x ≡ false → ifSuits suits o ≡ none
+  unsuited o x e q = rw (e, q) refl
+
+  -- none suits
+  pub none-suits : ((x : Row) → suits x ≡ false) → (o : Option Row) → ifSuits suits o ≡ none
+  none-suits h none = refl
+  none-suits h (some x) = ap (λ (b : Bool). cond b (some x) none) (h x)
+
+-- what a factor is: its ids are declared, and it comes at place i or after it
+pub record Stands (n m i : ℕ) (x : Row) : Type 0 where
+  pub declared : isDeclared n (cell 0 x) ≡ true
+  pub constrained : isDeclared m (cell 1 x) ≡ true
+  pub resource : natOf (cell 0 x) < n
+  pub constraint : natOf (cell 1 x) < m
+  pub from : i ≤ placeOf m x
+
+pub stands : (n m i : ℕ) (x : Row) → isFactor n m i x ≡ true → Stands n m i x
+unfolding isFactor
+stands n m i x e =
+    let a = both (isDeclared n (cell 0 x)) (isDeclared m (cell 1 x) && leb i (placeOf m x)) e in
+    let b = both (isDeclared m (cell 1 x)) (leb i (placeOf m x)) (a .1) in
+    record {
+      declared = a .0;
+      constrained = b .0;
+      resource = declared-below n (cell 0 x) (a .0);
+      constraint = declared-below m (cell 1 x) (b .0);
+      from = leb-true i (placeOf m x) (b .1);
+    }
+
+module _ (r m c : ℕ) (x : Row) where
+  -- a factor of the resource r alone has its id
+  pub own-resource : isFactor (r + 1) m (place m r c) x ≡ true → natOf (cell 0 x) ≡ r
+  own-resource e =
+      let h = stands (r + 1) m (place m r c) x e in
+      let a = h .resource in
+      let f = h .from in
+      ⊎-elim (λ b. omega arith) (λ b. let q = comes-before m r c (natOf (cell 0 x)) (natOf (cell 1 x)) b (h .constraint) in absurd (omega arith)) (le-or-lt r (natOf (cell 0 x)))
+
+  own-id : (z : ℤ) → isDeclared (r + 1) z ≡ true → natOf z ≡ r → eqZ (pos r) z ≡ true
+  unfolding isDeclared
+  own-id (pos k) d e = ap (λ (k : ℕ). eqZ (pos r) (pos k)) e ∙ eqZ-same (pos r)
+  own-id (negsuc k) d e = never d
+
+  other-by : hasId r x ≡ false → (b : Bool) → isFactor (r + 1) m (place m r c) x ≡ b → b ≡ false
+  other-by h true e = sym (own-id (cell 0 x) (stands (r + 1) m (place m r c) x e .declared) (own-resource e)) ∙ h
+  other-by h false e = refl
+
+  -- no other line is a factor of r
+  pub other-resource : hasId r x ≡ false → isFactor (r + 1) m (place m r c) x ≡ false
+  other-resource h = other-by h (isFactor (r + 1) m (place m r c) x) refl
+
+  -- a line with the id r is one where its constraint is declared and comes at c or after it
+  pub same-resource : hasId r x ≡ true → isFactor (r + 1) m (place m r c) x ≡ (isDeclared m (cell 1 x) && leb c (natOf (cell 1 x)))
   unfolding isFactor
-  factor-undeclared e = rw e refl
+  same-resource h =
+      ap (λ (z : ℤ). isDeclared (r + 1) z && (isDeclared m (cell 1 x) && leb (place m r c) (place m (natOf z) (natOf (cell 1 x))))) (sym (eqZ-true (pos r) (cell 0 x) h))
+      ∙ ap (λ (b : Bool). b && (isDeclared m (cell 1 x) && leb (place m r c) (place m r (natOf (cell 1 x))))) (declared-in (r + 1) r (omega arith))
+      ∙ ap (λ (b : Bool). isDeclared m (cell 1 x) && b) (comes-same m r c (natOf (cell 1 x)))
 
-  module _ (d : isDeclared n (cell 0 x) ≡ true) where
-    pub factor-unconstrained : isDeclared m (cell 1 x) ≡ false → isFactor n m i x ≡ false
-    unfolding isFactor
-    factor-unconstrained e = rw (d, e) refl
+pub and-false : (a b : Bool) → b ≡ false → (a && b) ≡ false
+and-false true b e = e
+and-false false b e = refl
 
-    pub factor-placed : isDeclared m (cell 1 x) ≡ true → isFactor n m i x ≡ leb i (placeOf m x)
-    unfolding isFactor
-    factor-placed e = rw (d, e) refl
+module _ (r m c : ℕ) where
+  -- a line without the id r is no factor of r
+  pub other-row : (o : Option Row) → ifSuits (hasId r) o ≡ none → ifSuits (isFactor (r + 1) m (place m r c)) o ≡ none
+  other-row none e = refl
+  other-row (some x) e = unsuited (isFactor (r + 1) m (place m r c)) (some x) x refl (other-resource r m c x (fails (hasId r) x e))
 
 -- a factor that is there: the values x of its line
 pub record Taken (next : ℕ) (o : Option Row) (f : Factor) : Type 0 where
   pub x : Row
   pub is : o ≡ some x
-  pub resource : f .resource ≡ natOf (cell 0 x)
   pub constraint : f .constraint ≡ natOf (cell 1 x)
-  pub place : f .cell ≡ factorCell (natOf (cell 0 x)) (natOf (cell 1 x))
   pub value : f .value ≡ cell 2 x
   pub after : f .next ≡ next
 
@@ -88,9 +164,7 @@ taken next none f e q = never (sym (ap (λ (w : Factor). w .ok) e) ∙ q)
 taken next (some x) f e q = record {
   x = x;
   is = refl;
-  resource = ap (λ (w : Factor). w .resource) e;
   constraint = ap (λ (w : Factor). w .constraint) e;
-  place = ap (λ (w : Factor). w .cell) e;
   value = ap (λ (w : Factor). w .value) e;
   after = ap (λ (w : Factor). w .next) e;
 }
@@ -98,21 +172,6 @@ taken next (some x) f e q = record {
 pub not-taken : (next : ℕ) (o : Option Row) (f : Factor) → f ≡ asFactor next o → f .ok ≡ false → o ≡ none
 not-taken next none f e q = refl
 not-taken next (some x) f e q = never (sym q ∙ ap (λ (w : Factor). w .ok) e)
-
--- its constraint is declared
-suits-by : (suits : Row → Bool) (x y : Row) (b : Bool) → suits y ≡ b → cond b (some y) none ≡ some x → suits x ≡ true
-suits-by suits x y true q e = let z : y ≡ x = cc in ap suits (sym z) ∙ q
-suits-by suits x y false q e = let z : _≡_ {A = ℕ} 0 1 = cc in absurd (omega arith)
-
-suits-of : (suits : Row → Bool) (o : Option Row) (x : Row) → ifSuits suits o ≡ some x → suits x ≡ true
-suits-of suits none x e = let z : _≡_ {A = ℕ} 0 1 = cc in absurd (omega arith)
-suits-of suits (some y) x e = suits-by suits x y (suits y) refl e
-
-pub constraint-below : (n m i : ℕ) (o : Option Row) (x : Row) → ifSuits (isFactor n m i) o ≡ some x → natOf (cell 1 x) < m
-unfolding isFactor
-constraint-below n m i o x e =
-    let d = both (isDeclared n (cell 0 x)) (isDeclared m (cell 1 x) && leb i (placeOf m x)) (suits-of (isFactor n m i) o x e) .1 in
-    declared-below m (cell 1 x) (both (isDeclared m (cell 1 x)) (leb i (placeOf m x)) d .0)
 
 -- factors that are stored leave as many cells
 pub length-stored : (a : List ℤ) (xs : List Row) → length (withFactors a xs) ≡ length a
@@ -147,15 +206,12 @@ module _ (n m : ℕ) where
     pub stores : withFactors a (Left (place m r c) t) ≡ S
     pub width : c ≤ m
 
-  pub reads-start : (a : List ℤ) (t : List ℕ) → Reads 0 0 0 a t (length (factorRows n m (lines t))) (withFactors a (factorRows n m (lines t))) (lines t)
-  unfolding factorRows
-  reads-start a t =
-      let z : place m 0 0 ≡ 0 = omega arith in
-      record {
-        lines = record { count = omega (arith, ap (λ (i : ℕ). length (Left i t)) z); stores = sets-none 0 (map (cell 2) (Left (place m 0 0) t)); rest = refl };
-        stores = ap (λ (i : ℕ). withFactors a (Left i t)) z;
-        width = omega arith;
-      }
+  pub reads-start : (r : ℕ) (a : List ℤ) (t : List ℕ) → Reads 0 r 0 a t (length (Left (place m r 0) t)) (withFactors a (Left (place m r 0) t)) (lines t)
+  reads-start r a t = record {
+    lines = record { count = omega arith; stores = sets-none 0 (map (cell 2) (Left (place m r 0) t)); rest = refl };
+    stores = refl;
+    width = omega arith;
+  }
 
   module _ (count r c : ℕ) (a : List ℤ) (t : List ℕ) (N : ℕ) (S : List ℤ) (L : List Line) (h : Reads count r c a t N S L) where
     pub room : length a ≡ length S

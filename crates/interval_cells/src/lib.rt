@@ -11,25 +11,16 @@ fn shadow_in(s: &[i64]) -> [i64; Interval::MAX_CONSTRAINTS]
     ensures { λ r. ⌜ r ≡ numbersIn (now (s .entry)) mostConstraints ⌝ }
 {
     let mut shadow = [0i64; Interval::MAX_CONSTRAINTS];
-    let mut c: usize = 0;
-    while c < Interval::MAX_CONSTRAINTS {
-        shadow[c] = cells::cell_at(s, c);
-        c += 1;
-    }
+    cell_copies::fill(&mut shadow, s, 0);
     shadow
 }
 
 // Number k of the four that each resource has in turn.
 fn outputs_in(s: &[i64], k: usize) -> [i64; Interval::MAX_RESOURCES]
-    requires { ⌜ k < 4 ⌝ }
     ensures { λ r. ⌜ r ≡ outputsIn (now (s .entry)) k ⌝ }
 {
     let mut outputs = [0i64; Interval::MAX_RESOURCES];
-    let mut r: usize = 0;
-    while r < Interval::MAX_RESOURCES {
-        outputs[r] = cells::cell_at(s, 4 * r + k);
-        r += 1;
-    }
+    cell_copies::fill_every(&mut outputs, s, k, 4);
     outputs
 }
 
@@ -38,11 +29,7 @@ fn factors_in(s: &[i64]) -> [i64; Interval::MAX_FACTORS]
     ensures { λ r. ⌜ r ≡ numbersIn (now (s .entry)) (mostResources * mostConstraints) ⌝ }
 {
     let mut factors = [0i64; Interval::MAX_FACTORS];
-    let mut i: usize = 0;
-    while i < Interval::MAX_FACTORS {
-        factors[i] = cells::cell_at(s, i);
-        i += 1;
-    }
+    cell_copies::fill(&mut factors, s, 0);
     factors
 }
 

@@ -25,10 +25,18 @@ ghost use Rattle.rules_state.specs.States.{marketIn};
 ghost use Rattle.rules_state.specs.Takes.{ifAccepted};
 ghost use Rattle.interval_part.specs.Taken.{shownValue, shownPart, seenOf, takenBy, stateBy, verdictsBy, leftBy};
 
-// An hour of few resources needs few cells for factors: clearing all of them costs more than the rest of a small part.
-const FEW_RESOURCES: u64 = 4;
+// An hour of fewer resources needs fewer cells for factors: clearing all of them costs more than the rest of a small part.
+const ONE_RESOURCE: u64 = 1;
 
-const FEW_FACTORS: usize = 128;
+const ONE_FACTORS: usize = 32;
+
+const FEW_RESOURCES: u64 = 8;
+
+const FEW_FACTORS: usize = 256;
+
+const HALF_RESOURCES: u64 = 32;
+
+const HALF_FACTORS: usize = 1024;
 
 // What taking an interval's part answers: the number of its last line, the offset of the next and how many constraints it has; or the number of the refusal and of its line.
 pub struct PartTaken {
@@ -260,8 +268,17 @@ pub fn part_taken(
     ensures verdicts { λ r. ⌜ now (verdicts .exit) ≡ verdictsBy (now (state .entry)) (now (verdicts .entry)) (readInterval (min line 65536) (lines (drop at (now (s .entry))))) ⌝ }
     ensures rest { λ r. ⌜ ifAccepted (r .number) (lines (drop (r .next) (now (s .entry)))) [] ≡ leftBy (now (state .entry)) (readInterval (min line 65536) (lines (drop at (now (s .entry))))) ⌝ }
 {
-    if cells::whole_at(state, MARKET_FROM) <= FEW_RESOURCES {
+    let n = cells::whole_at(state, MARKET_FROM);
+    if n <= ONE_RESOURCE {
+        let mut factors = [0i64; ONE_FACTORS];
+        return part_into(s, at, line, &mut factors, state, verdicts);
+    }
+    if n <= FEW_RESOURCES {
         let mut factors = [0i64; FEW_FACTORS];
+        return part_into(s, at, line, &mut factors, state, verdicts);
+    }
+    if n <= HALF_RESOURCES {
+        let mut factors = [0i64; HALF_FACTORS];
         return part_into(s, at, line, &mut factors, state, verdicts);
     }
     let mut factors = [0i64; Interval::MAX_FACTORS];

@@ -2,23 +2,22 @@
 use mathlib.Core.Bool.{false}
 use mathlib.Core.List.{List, [], _∷_}
 use mathlib.Core.Logic.{inl}
-use mathlib.Core.Path.{_≡_, refl, sym, ap, _∙_}
+use mathlib.Core.Path.{_≡_, refl, ap, _∙_}
 use Prim.Native.Nat.{ℕ, _+_, _-_, _<_, _≤_, min}
 use native.Mathlib.Omega.{arith}
 use native.Mathlib.Nat.{sub-zero}
-use lib.IntN.{ℤ, pos}
+use lib.IntN.{ℤ}
 use lib.ListN.{length, getD, set, length-set, length-take}
 use Rattle.rules_number.specs.Order.{natOf, eqZ}
-use Rattle.rules_number.specs.Over.{listed}
 use Rattle.rules_number.proofs.OverLaws.{listed-at, listed-length, taken-at}
 use Rattle.rules_curve.specs.Curves.{mostSteps, mostBidSteps, stepTo, blankStep, stepsOf, bidSteps}
 use Rattle.rules_curve.specs.declared.Step.{Step}
 use Rattle.rules_curve.proofs.CheckLaws.{bid-at}
 use Rattle.rules_mitigation.specs.Mitigation.{segments, joined}
-use Rattle.mitigation.proofs.Walk.{restOf, rest-skip, rest-default, rest-bid, rest-bid-end, rest-default-end}
+use Rattle.mitigation.proofs.Walk.{restOf, rest-skip, rest-default, rest-bid}
 use Rattle.rules_library.specs.Slices.{cellAt}
 use Rattle.rules_state.specs.States.{curveInCells, cellOf}
-use Rattle.mitigated_cells.proofs.PutLaws.{endCell, Reached, put-next, Ended, put-ended}
+use Rattle.mitigated_cells.proofs.PutLaws.{Reached, put-next, Ended, put-ended}
 
 -- ---- a curve in cells
 abbrev pub stepIn : List ℤ → ℕ → ℕ → Step

@@ -2,3 +2,4 @@
 pub mod PutLaws
 pub mod CellWalk
 pub mod RowLaws
+pub mod UncutLaws

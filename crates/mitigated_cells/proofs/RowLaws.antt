@@ -1,12 +1,12 @@
 -- The present curve of a resource, by the cells of its row and of its floor price. Assumes nothing.
 use mathlib.Core.List.{List, []}
 use mathlib.Core.Logic.{⊎-elim}
-use mathlib.Core.Path.{_≡_, refl, sym, ap, ap₂, _∙_}
-use Prim.Native.Nat.{ℕ, _+_, _<_, _≤_}
+use mathlib.Core.Path.{_≡_, sym, ap, ap₂, _∙_}
+use Prim.Native.Nat.{ℕ, _+_, _-_, _<_, _≤_}
 use native.Mathlib.Omega.{arith}
 use lib.IntN.{ℤ, pos}
-use lib.ListN.{length, take, getD, List·getD-eq-default}
-use lib.Seq.{take-append-seam}
+use lib.ListN.{length, take, drop, getD, length-drop, List·getD-eq-default}
+use lib.Seq.{take-append-seam, take-all, getD-drop}
 use Rattle.rules_number.specs.Order.{natOf}
 use Rattle.rules_number.specs.Over.{listed, padded}
 use Rattle.rules_number.proofs.OverLaws.{listed-at, listed-length, listed-same, le-or-lt}
@@ -21,7 +21,7 @@ use Rattle.rules_hour.specs.Hours.{noRow, uncut, rowCurve, curveIn}
 use Rattle.rules_hour.specs.declared.Floor.{Floor}
 use Rattle.rules_library.specs.Slices.{cellAt}
 use Rattle.rules_state.specs.Layout.{mostResources, curveRoom, rowRoom}
-use Rattle.rules_state.specs.States.{floorOf, floorsIn, standingIn, curveInCells, rowFrom, rowIn, rowsIn, hourIn}
+use Rattle.rules_state.specs.States.{floorOf, standingIn, curveInCells, rowFrom, rowIn, rowsIn, hourIn}
 use Rattle.state_cells.proofs.FloorLaws.{floors-at}
 use Rattle.mitigated_cells.proofs.CellWalk.{used-length, bid-length}
 
@@ -71,19 +71,23 @@ module _ (st : List ℤ) (r : ℕ) where
           let ds = stepsOf (curveInCells st (rowFrom r + curveRoom)) in
           omega (arith, ap length (steps-here h), joined-length (segments (capped floor) (bid .start) bs ds), segments-length (capped floor) (length bs + length ds) (bid .start) bs ds, bid-length st (rowFrom r), used-length st (rowFrom r + curveRoom))
 
--- ---- the cells of a row, copied
+-- ---- a row in other cells
 by-fields : {s s' n n' : ℕ} {l l' : List Step} → s ≡ s' → n ≡ n' → l ≡ l' → _≡_ {A = Curve} (record { start = s; count = n; steps = l }) (record { start = s'; count = n'; steps = l' })
 by-fields e f g = cc
 
-module _ (st : List ℤ) (from : ℕ) where
-  abbrev copied : List ℤ
-  copied = listed (λ k. cellAt st (from + k)) rowRoom
+module _ (st row : List ℤ) (from : ℕ) (same : (k : ℕ) → k < rowRoom → cellAt row k ≡ cellAt st (from + k)) where
+  cell-same : (k to : ℕ) → k < rowRoom → to ≡ from + k → cellAt row k ≡ cellAt st to
+  cell-same k to h e = same k h ∙ ap (cellAt st) (sym e)
 
-  cell-copied : (k to : ℕ) → k < rowRoom → to ≡ from + k → cellAt copied k ≡ cellAt st to
-  cell-copied k to h e = listed-at (λ q. cellAt st (from + q)) (pos 0) rowRoom k h ∙ ap (cellAt st) (sym e)
-
-  pub curve-copied : (off to : ℕ) → off + curveRoom ≤ rowRoom → to ≡ from + off → curveInCells copied off ≡ curveInCells st to
+  pub curve-same : (off to : ℕ) → off + curveRoom ≤ rowRoom → to ≡ from + off → curveInCells row off ≡ curveInCells st to
   unfolding curveInCells
-  curve-copied off to h e =
-      by-fields (ap natOf (cell-copied (off + 1) (to + 1) (omega arith) (omega arith))) (ap natOf (cell-copied off to (omega arith) e))
-      (listed-same _ _ mostSteps (λ k l. ap₂ stepTo (ap natOf (cell-copied (off + 2 + k) (to + 2 + k) (omega arith) (omega arith))) (cell-copied (off + 2 + mostSteps + k) (to + 2 + mostSteps + k) (omega arith) (omega arith))))
+  curve-same off to h e =
+      by-fields (ap natOf (cell-same (off + 1) (to + 1) (omega arith) (omega arith))) (ap natOf (cell-same off to (omega arith) e))
+      (listed-same _ _ mostSteps (λ k l. ap₂ stepTo (ap natOf (cell-same (off + 2 + k) (to + 2 + k) (omega arith) (omega arith))) (cell-same (off + 2 + mostSteps + k) (to + 2 + mostSteps + k) (omega arith) (omega arith))))
+
+-- the cells of a row, copied, and as they stand in the slice
+pub cells-copied : (st : List ℤ) (from k : ℕ) → k < rowRoom → cellAt (listed (λ q. cellAt st (from + q)) rowRoom) k ≡ cellAt st (from + k)
+cells-copied st from k h = listed-at (λ q. cellAt st (from + q)) (pos 0) rowRoom k h
+
+pub cells-dropped : (st : List ℤ) (from k : ℕ) → k < rowRoom → cellAt (take (length st - from) (drop from st)) k ≡ cellAt st (from + k)
+cells-dropped st from k h = ap (λ (l : List ℤ). cellAt l k) (take-all (length st - from) (drop from st) (omega (arith, length-drop from st))) ∙ getD-drop from st k (pos 0)

@@ -4,17 +4,18 @@ use rules_curve::Curve;
 use rules_interval::Interval;
 use rules_mitigation::Mitigated;
 ghost use mathlib.Core.Path.{_≡_};
-ghost use mathlib.Core.Bool.{false};
+ghost use mathlib.Core.Bool.{true, false};
 ghost use mathlib.Core.List.{map};
 ghost use Prim.Native.Nat.{_+_, _≤_, _<_, min as least};
 ghost use lib.ListN.{length, set};
 ghost use lib.Seq.{sets};
 ghost use Rattle.rules_number.specs.Order.{natOf, eqZ};
-ghost use Rattle.rules_number.specs.Over.{listed};
-ghost use Rattle.rules_mitigation.specs.Mitigation.{capped, mitigatedSteps, mostMitigatedSteps, usedSteps};
+ghost use Rattle.rules_curve.specs.Curves.{bidSteps};
+ghost use Rattle.rules_mitigation.specs.Mitigation.{capped, joined, mitigatedSteps, mostMitigatedSteps, usedSteps};
+ghost use Rattle.rules_mitigation.specs.declared.FloorPrice.the-variants.{Uncut};
 ghost use Rattle.rules_hour.specs.Hours.{curveIn};
 ghost use Rattle.rules_library.specs.Slices.{cellAt};
-ghost use Rattle.rules_state.specs.Layout.{curveRoom, rowRoom, stateRoom};
+ghost use Rattle.rules_state.specs.Layout.{curveRoom, rowRoom};
 ghost use Rattle.rules_state.specs.States.{cellOf, floorOf, curveInCells, hourIn};
 
 // The number at an index that lies in the slice.
@@ -90,25 +91,18 @@ fn put_step(ends: &mut [i64], prices: &mut [i64], k: usize, end: u64, price: i64
     prices[k] = price;
 }
 
-// Puts the steps of the bid of the row that begins at a cell, divided where a step of its default curve ends, each part at its cut price, neighbours with one price
-// as one, and answers how many they are.
-fn put_steps(
-    state: &[i64],
-    from: usize,
-    mark: i64,
-    floor: i64,
-    ends: &mut [i64],
-    prices: &mut [i64],
-) -> usize
-    requires { ⌜ (from + rowRoom ≤ length (now state)) × (mostMitigatedSteps ≤ length (now ends)) × (mostMitigatedSteps ≤ length (now prices)) ⌝ }
-    ensures count { λ x. ⌜ x ≡ length (mitigatedSteps (floorOf mark floor .price) (curveInCells (now (state .entry)) from) (curveInCells (now (state .entry)) (from + curveRoom))) ⌝ }
-    ensures ends { λ x. ⌜ now (ends .exit) ≡ sets (now (ends .entry)) 0 (map (λ s. cellOf (s .end)) (mitigatedSteps (floorOf mark floor .price) (curveInCells (now (state .entry)) from) (curveInCells (now (state .entry)) (from + curveRoom)))) ⌝ }
-    ensures prices { λ x. ⌜ now (prices .exit) ≡ sets (now (prices .entry)) 0 (map (λ s. s .price) (mitigatedSteps (floorOf mark floor .price) (curveInCells (now (state .entry)) from) (curveInCells (now (state .entry)) (from + curveRoom)))) ⌝ }
+// Puts the steps of the bid of a row, divided where a step of its default curve ends, each part at its cut price, neighbours with one price as one, and answers
+// how many they are.
+fn put_steps(row: &[i64], mark: i64, floor: i64, ends: &mut [i64], prices: &mut [i64]) -> usize
+    requires { ⌜ (rowRoom ≤ length (now row)) × (mostMitigatedSteps ≤ length (now ends)) × (mostMitigatedSteps ≤ length (now prices)) ⌝ }
+    ensures count { λ x. ⌜ x ≡ length (mitigatedSteps (floorOf mark floor .price) (curveInCells (now (row .entry)) 0) (curveInCells (now (row .entry)) curveRoom)) ⌝ }
+    ensures ends { λ x. ⌜ now (ends .exit) ≡ sets (now (ends .entry)) 0 (map (λ s. cellOf (s .end)) (mitigatedSteps (floorOf mark floor .price) (curveInCells (now (row .entry)) 0) (curveInCells (now (row .entry)) curveRoom))) ⌝ }
+    ensures prices { λ x. ⌜ now (prices .exit) ≡ sets (now (prices .entry)) 0 (map (λ s. s .price) (mitigatedSteps (floorOf mark floor .price) (curveInCells (now (row .entry)) 0) (curveInCells (now (row .entry)) curveRoom))) ⌝ }
 {
-    let default = from + rules_state::CURVE_ROOM;
-    let bids = count_in(state, from, Curve::MAX_BID_STEPS);
-    let defaults = count_in(state, default, Curve::MAX_STEPS);
-    let mut at = whole_in(state, from + 1);
+    let default = rules_state::CURVE_ROOM;
+    let bids = count_in(row, 0, Curve::MAX_BID_STEPS);
+    let defaults = count_in(row, default, Curve::MAX_STEPS);
+    let mut at = whole_in(row, 1);
     let mut last: i64 = 0;
     let mut i: usize = 0;
     let mut j: usize = 0;
@@ -117,13 +111,13 @@ fn put_steps(
         if defaults <= j {
             return n;
         }
-        let b = whole_in(state, from + 2 + i);
-        let d = whole_in(state, default + 2 + j);
+        let b = whole_in(row, 2 + i);
+        let d = whole_in(row, default + 2 + j);
         if d <= at {
             j += 1;
         } else {
-            let bid = cell_in(state, from + 2 + Curve::MAX_STEPS + i);
-            let cost = cell_in(state, default + 2 + Curve::MAX_STEPS + j);
+            let bid = cell_in(row, 2 + Curve::MAX_STEPS + i);
+            let cost = cell_in(row, default + 2 + Curve::MAX_STEPS + j);
             let price = cap(mark, floor, bid, cost);
             let k = place(n, last, price);
             at = nearer(d, b);
@@ -140,18 +134,67 @@ fn put_steps(
     n
 }
 
-// The numbers of the row that begins at a cell: 0 past the end of the slice.
-fn row_cells(state: &[i64], from: usize) -> [i64; rules_state::ROW_ROOM]
-    requires { ⌜ from ≤ stateRoom ⌝ }
-    ensures { λ x. ⌜ x ≡ listed (λ k. cellAt (now (state .entry)) (from + k)) rowRoom ⌝ }
+// Whether the bid of a row lies under the last end of its default curve, so that no part of it is left out.
+fn is_under(row: &[i64]) -> bool
+    requires { ⌜ rowRoom ≤ length (now row) ⌝ }
+    ensures { λ x. ⌜ (x ≡ true → mitigatedSteps Uncut (curveInCells (now (row .entry)) 0) (curveInCells (now (row .entry)) curveRoom) ≡ joined (bidSteps (curveInCells (now (row .entry)) 0))) ⌝ }
 {
-    let mut row = [0i64; rules_state::ROW_ROOM];
-    let mut k: usize = 0;
-    while k < rules_state::ROW_ROOM {
-        row[k] = cells::cell_at(state, from + k);
-        k += 1;
+    let default = rules_state::CURVE_ROOM;
+    let bids = count_in(row, 0, Curve::MAX_BID_STEPS);
+    let defaults = count_in(row, default, Curve::MAX_STEPS);
+    if defaults == 0 {
+        return false;
     }
-    row
+    let top = whole_in(row, default + 1 + defaults);
+    let mut at = whole_in(row, 1);
+    let mut i: usize = 0;
+    while i < bids {
+        if top <= at {
+            return false;
+        }
+        at = whole_in(row, 2 + i);
+        i += 1;
+    }
+    at <= top
+}
+
+// Puts the steps of the bid of a row, neighbours with one price as one, and answers how many they are.
+fn put_bid(row: &[i64], ends: &mut [i64], prices: &mut [i64]) -> usize
+    requires { ⌜ (rowRoom ≤ length (now row)) × (mostMitigatedSteps ≤ length (now ends)) × (mostMitigatedSteps ≤ length (now prices)) ⌝ }
+    ensures count { λ x. ⌜ x ≡ length (joined (bidSteps (curveInCells (now (row .entry)) 0))) ⌝ }
+    ensures ends { λ x. ⌜ now (ends .exit) ≡ sets (now (ends .entry)) 0 (map (λ s. cellOf (s .end)) (joined (bidSteps (curveInCells (now (row .entry)) 0)))) ⌝ }
+    ensures prices { λ x. ⌜ now (prices .exit) ≡ sets (now (prices .entry)) 0 (map (λ s. s .price) (joined (bidSteps (curveInCells (now (row .entry)) 0)))) ⌝ }
+{
+    let bids = count_in(row, 0, Curve::MAX_BID_STEPS);
+    let mut last: i64 = 0;
+    let mut i: usize = 0;
+    let mut n: usize = 0;
+    while i < bids {
+        let end = whole_in(row, 2 + i);
+        let price = cell_in(row, 2 + Curve::MAX_STEPS + i);
+        let k = place(n, last, price);
+        put_step(ends, prices, k, end, price);
+        last = price;
+        n = k + 1;
+        i += 1;
+    }
+    n
+}
+
+// Puts the steps of the present curve of a row, and answers how many they are. A bid that was never cut isn't divided.
+fn put_row(row: &[i64], mark: i64, floor: i64, ends: &mut [i64], prices: &mut [i64]) -> usize
+    requires { ⌜ (rowRoom ≤ length (now row)) × (mostMitigatedSteps ≤ length (now ends)) × (mostMitigatedSteps ≤ length (now prices)) ⌝ }
+    ensures count { λ x. ⌜ x ≡ length (mitigatedSteps (floorOf mark floor .price) (curveInCells (now (row .entry)) 0) (curveInCells (now (row .entry)) curveRoom)) ⌝ }
+    ensures ends { λ x. ⌜ now (ends .exit) ≡ sets (now (ends .entry)) 0 (map (λ s. cellOf (s .end)) (mitigatedSteps (floorOf mark floor .price) (curveInCells (now (row .entry)) 0) (curveInCells (now (row .entry)) curveRoom))) ⌝ }
+    ensures prices { λ x. ⌜ now (prices .exit) ≡ sets (now (prices .entry)) 0 (map (λ s. s .price) (mitigatedSteps (floorOf mark floor .price) (curveInCells (now (row .entry)) 0) (curveInCells (now (row .entry)) curveRoom))) ⌝ }
+{
+    if mark != 0 {
+        return put_steps(row, mark, floor, ends, prices);
+    }
+    if is_under(row) {
+        return put_bid(row, ends, prices);
+    }
+    put_steps(row, mark, floor, ends, prices)
 }
 
 // Puts the steps of the present curve of resource r, and answers how many they are: none where there is no such resource.
@@ -171,9 +214,10 @@ pub fn mitigated_into(
     let from = rules_state::ROWS_FROM + rules_state::ROW_ROOM * r;
     let mark = cells::cell_at(state, 1 + r);
     let floor = cells::cell_at(state, 1 + Interval::MAX_RESOURCES + r);
-    if number::has_room(state.len(), from, rules_state::ROW_ROOM) {
-        return put_steps(state, from, mark, floor, ends, prices);
+    if from + rules_state::ROW_ROOM <= state.len() {
+        return put_row(&state[from..], mark, floor, ends, prices);
     }
-    let row = row_cells(state, from);
-    put_steps(&row, 0, mark, floor, ends, prices)
+    let mut row = [0i64; rules_state::ROW_ROOM];
+    cell_copies::fill(&mut row, state, from);
+    put_row(&row, mark, floor, ends, prices)
 }

@@ -140,18 +140,6 @@ pub fn mitigated_curve(bid: Curve, default: Curve, floor: FloorPrice) -> Mitigat
 pub fn price_at(curve: Mitigated, q: u64) -> Quote
     ensures { λ r. ⌜ r ≡ quote (curve .start) (usedSteps curve) q ⌝ }
 {
-    let n = used(curve);
-    let start = curve.start;
-    if q < start {
-        return Quote::Outside;
-    }
-    let mut i: usize = 0;
-    while i < n {
-        let step = curve.steps[i];
-        if q < step.end {
-            return Quote::Price(step.price);
-        }
-        i += 1;
-    }
-    Quote::Outside
+    let steps = curve.steps;
+    curve::price_among(curve.start, curve.count, steps, q)
 }

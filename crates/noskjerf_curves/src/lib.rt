@@ -8,12 +8,11 @@ ghost use mathlib.Core.Path.{_≡_};
 ghost use mathlib.Core.Bool.{_&&_};
 ghost use Prim.Native.Nat.{_+_, _≤_};
 ghost use lib.Dec.{leb};
+ghost use Rattle.rules_curve.specs.Refusals.{unless};
 ghost use Rattle.rules_mitigation.specs.Mitigation.{mostMitigatedSteps};
-ghost use Rattle.rules_hour.specs.Hours.{curveIn};
-ghost use Rattle.rules_pass.specs.Passes.{fiveMinuteIn};
+ghost use Rattle.rules_library.specs.Slices.{answerOf};
 ghost use Rattle.rules_state.specs.Layout.{stateRoom};
-ghost use Rattle.rules_state.specs.States.{hourIn};
-ghost use Rattle.rules_state.specs.Curves.{curveAnswer, curveEdges, curvePrices, fiveMinuteEdges, fiveMinutePrices, hourBidAnswer, hourBidEdges, hourBidPrices, defaultOfAnswer, defaultOfEdges, defaultOfPrices};
+ghost use Rattle.rules_state.specs.Curves.{mitigatedRoom, edgesBy, pricesBy, curveAnswer, curveEdges, curvePrices, fiveMinuteEdges, fiveMinutePrices, hourBidAnswer, hourBidEdges, hourBidPrices, defaultOfAnswer, defaultOfEdges, defaultOfPrices};
 
 // The number of the refusal of a bid for an hour that is still open.
 const HOUR_OPEN: i64 = 20;
@@ -32,22 +31,26 @@ fn has_room(state: usize, edges: usize, prices: usize, steps: usize) -> bool
     steps <= prices
 }
 
-fn present(state: &[i64], r: usize) -> Mitigated
-    ensures { λ x. ⌜ x ≡ curveIn (hourIn (now (state .entry)) .hour) r ⌝ }
+// Puts a mitigated curve, where the hour is full enough for it: else 20.
+fn put_curve(
+    state: &[i64],
+    full: bool,
+    curve: Mitigated,
+    edges: &mut [u64],
+    prices: &mut [i64],
+) -> i64
+    ensures answer { λ x. ⌜ x ≡ answerOf (mitigatedRoom (now (state .entry)) (now (edges .entry)) (now (prices .entry))) (unless full 20) ⌝ }
+    ensures edges { λ x. ⌜ now (edges .exit) ≡ edgesBy (answerOf (mitigatedRoom (now (state .entry)) (now (edges .entry)) (now (prices .entry))) (unless full 20)) (now (edges .entry)) curve ⌝ }
+    ensures prices { λ x. ⌜ now (prices .exit) ≡ pricesBy (answerOf (mitigatedRoom (now (state .entry)) (now (edges .entry)) (now (prices .entry))) (unless full 20)) (now (prices .entry)) curve ⌝ }
 {
-    let row = market_cells::row_in(state, r);
-    let floor = state_cells::floor_in(state, r);
-    standing::row_curve(row, floor)
-}
-
-fn five_minute(state: &[i64], r: usize) -> Mitigated
-    ensures { λ x. ⌜ x ≡ fiveMinuteIn (hourIn (now (state .entry))) r ⌝ }
-{
-    let row = market_cells::row_in(state, r);
-    let floor = state_cells::floor_in(state, r);
-    let lowest = state_cells::pass_floor_in(state, r);
-    let price = lowest.price;
-    standing::row_curve(row, standing::cut_floor(floor, price))
+    if !has_room(state.len(), edges.len(), prices.len(), Mitigated::MAX_STEPS) {
+        return -1;
+    }
+    if !full {
+        return HOUR_OPEN;
+    }
+    curve_cells::put_mitigated(edges, prices, curve);
+    0
 }
 
 // The present curve of resource r: a blank one where the hour has no such resource.
@@ -62,12 +65,7 @@ pub extern "C" fn noskjerf_curve(
     ensures edges { λ x. ⌜ now (edges .exit) ≡ curveEdges (now (state .entry)) r (now (edges .entry)) (now (prices .entry)) ⌝ }
     ensures prices { λ x. ⌜ now (prices .exit) ≡ curvePrices (now (state .entry)) r (now (edges .entry)) (now (prices .entry)) ⌝ }
 {
-    if !has_room(state.len(), edges.len(), prices.len(), Mitigated::MAX_STEPS) {
-        return -1;
-    }
-    let curve = present(state, r);
-    curve_cells::put_mitigated(edges, prices, curve);
-    0
+    put_curve(state, true, hour_cells::present_in(state, r), edges, prices)
 }
 
 // The five-minute curve of resource r, from the passes since the last accepted interval: a blank one where the hour has no such resource.
@@ -82,12 +80,8 @@ pub extern "C" fn noskjerf_five_minute(
     ensures edges { λ x. ⌜ now (edges .exit) ≡ fiveMinuteEdges (now (state .entry)) r (now (edges .entry)) (now (prices .entry)) ⌝ }
     ensures prices { λ x. ⌜ now (prices .exit) ≡ fiveMinutePrices (now (state .entry)) r (now (edges .entry)) (now (prices .entry)) ⌝ }
 {
-    if !has_room(state.len(), edges.len(), prices.len(), Mitigated::MAX_STEPS) {
-        return -1;
-    }
-    let curve = five_minute(state, r);
-    curve_cells::put_mitigated(edges, prices, curve);
-    0
+    let curve = hour_cells::five_minute_in(state, r);
+    put_curve(state, true, curve, edges, prices)
 }
 
 // The bid of resource r for the hour, or 20 where fewer than four intervals are accepted: a blank one where the hour has no such resource.
@@ -102,16 +96,9 @@ pub extern "C" fn noskjerf_hour_bid(
     ensures edges { λ x. ⌜ now (edges .exit) ≡ hourBidEdges (now (state .entry)) r (now (edges .entry)) (now (prices .entry)) ⌝ }
     ensures prices { λ x. ⌜ now (prices .exit) ≡ hourBidPrices (now (state .entry)) r (now (edges .entry)) (now (prices .entry)) ⌝ }
 {
-    if !has_room(state.len(), edges.len(), prices.len(), Mitigated::MAX_STEPS) {
-        return -1;
-    }
     let accepted = cells::whole_at(state, 0);
-    if accepted < Standing::MAX_INTERVALS {
-        return HOUR_OPEN;
-    }
-    let bid = present(state, r);
-    curve_cells::put_mitigated(edges, prices, bid);
-    0
+    let full = Standing::MAX_INTERVALS <= accepted;
+    put_curve(state, full, hour_cells::present_in(state, r), edges, prices)
 }
 
 // The default curve of resource r: a blank one where the hour has no such resource. `edges` has 13 numbers and `prices` 11.

@@ -1,3 +1,3 @@
--- Laws of what an accepted call leaves, and of the answers of opening.
-pub mod IntervalLaws
+-- Laws of what a call leaves, and of the answers of opening.
+pub mod CallLaws
 pub mod OpenLaws

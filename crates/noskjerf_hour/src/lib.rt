@@ -5,7 +5,8 @@ ghost use mathlib.Core.Path.{_≡_};
 ghost use Rattle.rules_state.specs.Layout.{stateRoom};
 ghost use Rattle.rules_state.specs.Openings.{openingIn};
 ghost use Rattle.rules_state.specs.Intervals.{intervalIn};
-ghost use Rattle.rules_state.specs.Calls.{openAnswer, stateOpened, intervalAnswer, stateAfterInterval, verdictsAfterInterval};
+ghost use Rattle.rules_state.specs.Calls.{openAnswer, stateOpened, intervalAnswer, stateAfterInterval, verdictsAfterInterval, passAnswer, stateAfterPass, verdictsAfterPass};
+ghost use Rattle.noskjerf_hour.specs.Calls.{answerBy, stateBy, verdictsBy};
 
 // How many numbers the state of an hour has.
 #[no_mangle]
@@ -32,18 +33,71 @@ pub extern "C" fn noskjerf_open(
     if state.len() < rules_state::STATE_ROOM {
         return -1;
     }
-    let opening = opening_cells::opening_in(month, portfolios, sellers, resources, blocks);
-    let entered = opening::entered(opening);
-    let outcome = entered.outcome;
+    let mut opened = [0i64; rules_state::STATE_ROOM];
+    let outcome = opening_cells::open_into(
+        month,
+        portfolios,
+        sellers,
+        resources,
+        blocks,
+        &mut opened,
+    );
     if let Outcome::Refused(refusal) = outcome {
         return curve::refusal_number(refusal) as i64;
     }
-    let market = entered.market;
-    let rows = entered.rows;
-    state_puts::put_standing(state, standing::fresh());
-    state_puts::put_quarter(state, standing::fresh_quarter());
-    market_puts::put_market(state, market);
-    market_puts::put_rows(state, rows);
+    cell_copies::put_all(state, 0, &opened);
+    0
+}
+
+// A pass, or an interval, of these numbers.
+fn called(
+    pass: bool,
+    state: &mut [i64],
+    constraints: usize,
+    shadow: &[i64],
+    resources: usize,
+    outputs: &[i64],
+    factors: &[i64],
+    parameter: i64,
+    verdicts: &mut [i64],
+) -> i64
+    ensures answer { λ r. ⌜ r ≡ answerBy pass (now (state .entry)) (now (verdicts .entry)) (intervalIn constraints (now (shadow .entry)) resources (now (outputs .entry)) (now (factors .entry)) parameter) ⌝ }
+    ensures state { λ r. ⌜ now (state .exit) ≡ stateBy pass (now (state .entry)) (now (verdicts .entry)) (intervalIn constraints (now (shadow .entry)) resources (now (outputs .entry)) (now (factors .entry)) parameter) ⌝ }
+    ensures verdicts { λ r. ⌜ now (verdicts .exit) ≡ verdictsBy pass (now (state .entry)) (now (verdicts .entry)) (intervalIn constraints (now (shadow .entry)) resources (now (outputs .entry)) (now (factors .entry)) parameter) ⌝ }
+{
+    if state.len() < rules_state::STATE_ROOM {
+        return -1;
+    }
+    if verdicts.len() < rules_state::VERDICT_ROOM {
+        return -1;
+    }
+    let v = interval_cells::interval_in(
+        constraints,
+        shadow,
+        resources,
+        outputs,
+        factors,
+        parameter,
+    );
+    let mut found = taking::none_found();
+    let outcome = hour_cells::call_into(
+        state,
+        pass,
+        constraints,
+        &v.shadow,
+        resources,
+        &v.lmp,
+        &v.dispatch,
+        &v.available,
+        &v.floor,
+        &v.factors,
+        parameter,
+        &mut found,
+    );
+    if let Outcome::Refused(refusal) = outcome {
+        return curve::refusal_number(refusal) as i64;
+    }
+    cell_copies::put_all(verdicts, 0, &found);
     0
 }
 
@@ -65,38 +119,45 @@ pub extern "C" fn noskjerf_interval(
     ensures state { λ r. ⌜ now (state .exit) ≡ stateAfterInterval (now (state .entry)) (now (verdicts .entry)) (intervalIn constraints (now (shadow .entry)) resources (now (outputs .entry)) (now (factors .entry)) parameter) ⌝ }
     ensures verdicts { λ r. ⌜ now (verdicts .exit) ≡ verdictsAfterInterval (now (state .entry)) (now (verdicts .entry)) (intervalIn constraints (now (shadow .entry)) resources (now (outputs .entry)) (now (factors .entry)) parameter) ⌝ }
 {
-    if state.len() < rules_state::STATE_ROOM {
-        return -1;
-    }
-    if verdicts.len() < rules_state::VERDICT_ROOM {
-        return -1;
-    }
-    let v = interval_cells::interval_in(
+    called(
+        false,
+        state,
         constraints,
         shadow,
         resources,
         outputs,
         factors,
         parameter,
-    );
-    let mut found = taking::none_found();
-    let outcome = taking::take_into(
+        verdicts,
+    )
+}
+
+// Takes a five-minute pass, with what an interval is taken with. Answers 0, puts the quarter hour after it into the state and the verdicts into `verdicts`; or answers
+// the number of a refusal, or -1 where the state or `verdicts` has too few numbers, and leaves both as they were.
+#[no_mangle]
+pub extern "C" fn noskjerf_pass(
+    state: &mut [i64],
+    constraints: usize,
+    shadow: &[i64],
+    resources: usize,
+    outputs: &[i64],
+    factors: &[i64],
+    parameter: i64,
+    verdicts: &mut [i64],
+) -> i64
+    ensures answer { λ r. ⌜ r ≡ passAnswer (now (state .entry)) (now (verdicts .entry)) (intervalIn constraints (now (shadow .entry)) resources (now (outputs .entry)) (now (factors .entry)) parameter) ⌝ }
+    ensures state { λ r. ⌜ now (state .exit) ≡ stateAfterPass (now (state .entry)) (now (verdicts .entry)) (intervalIn constraints (now (shadow .entry)) resources (now (outputs .entry)) (now (factors .entry)) parameter) ⌝ }
+    ensures verdicts { λ r. ⌜ now (verdicts .exit) ≡ verdictsAfterPass (now (state .entry)) (now (verdicts .entry)) (intervalIn constraints (now (shadow .entry)) resources (now (outputs .entry)) (now (factors .entry)) parameter) ⌝ }
+{
+    called(
+        true,
         state,
         constraints,
-        &v.shadow,
+        shadow,
         resources,
-        &v.lmp,
-        &v.dispatch,
-        &v.available,
-        &v.floor,
-        &v.factors,
+        outputs,
+        factors,
         parameter,
-        &mut found,
-    );
-    if let Outcome::Refused(refusal) = outcome {
-        return curve::refusal_number(refusal) as i64;
-    }
-    state_puts::put_quarter(state, standing::fresh_quarter());
-    taking::put_found(verdicts, &found);
-    0
+        verdicts,
+    )
 }

@@ -1,8 +1,8 @@
 -- Laws of the answers of noskjerf_why, one for each way out. Assumes nothing.
 use Prim.Native.Nat.{ℕ, _≤_, _<_}
-use mathlib.Core.Path.{_≡_, refl, ap, _∙_}
+use mathlib.Core.Path.{_≡_, refl}
 use mathlib.Core.Bool.{Bool, true, false, _&&_}
-use mathlib.Core.List.{List, [], flatMap}
+use mathlib.Core.List.{List, []}
 use native.Mathlib.Omega.{arith}
 use lib.IntN.{ℤ, pos, negsuc}
 use lib.ListN.{length}
@@ -12,28 +12,14 @@ use Rattle.rules_curve.specs.declared.Refusal.{Refusal}
 use Rattle.rules_curve.proofs.RefusalLaws.{refused-number, two-digits}
 use Rattle.rules_interval.specs.Intervals.{intervalRefusal}
 use Rattle.rules_interval.specs.declared.Interval.{Interval}
-use Rattle.rules_interval.proofs.IntervalLaws.{in-limits}
-use Rattle.rules_path.specs.declared.Market.{Market}
 use Rattle.rules_state.specs.Calls.{holds, whyAnswer, causesAfter}
 use Rattle.rules_state.specs.Causes.{causesCells}
-use Rattle.rules_state.specs.Layout.{mostResources, stateRoom, causeRoom}
+use Rattle.rules_state.specs.Layout.{stateRoom, causeRoom}
 use Rattle.rules_state.specs.States.{marketIn}
 use Rattle.cells.proofs.AnswerLaws as answers
-use Rattle.causes.proofs.CauseLaws.{causes-are}
-use Rattle.causes.specs.Cells.{cellsOf}
-use Rattle.cutting.specs.Causes.{causesOf, causesUnless}
-use Rattle.cutting.specs.declared.Cause.{Cause}
 
 pub few : (r : Refusal) (n : ℕ) → n ≡ numberOf r → (0 < n) × (n ≤ 99)
 few r n e = (omega (arith, refused-number r), omega (arith, two-digits r))
-
--- what was read stands for what it should
-module _ {m m' : Market} {v v' : Interval} (e : m ≡ m') (f : v ≡ v') where
-  pub same-number : intervalRefusal (m .resources) v ≡ intervalRefusal (m' .resources) v'
-  same-number = cc
-
-  pub same-causes : causesUnless (intervalRefusal (m .resources) v) (causesOf m v) ≡ causesUnless (intervalRefusal (m' .resources) v') (causesOf m' v')
-  same-causes = cc
 
 module _ (state causes : List ℤ) (v : Interval) where
   abbrev number : ℕ
@@ -74,14 +60,6 @@ module _ (state causes : List ℤ) (v : Interval) where
       unfolding whyAnswer causesAfter
       refused n l e = let a = answers.refused room number next causes nothing nothing enough n l e in (a .0, a .1 .0)
 
-      pub written : intervalRefusal (marketIn state .resources) v ≡ 0
-          → (list : List Cause) → list ≡ causesUnless (intervalRefusal (marketIn state .resources) v) (causesOf (marketIn state) v) → (out : List ℤ) → out ≡ sets causes 0 (flatMap cellsOf list)
-          → Answered (pos 0) out
+      pub written : intervalRefusal (marketIn state .resources) v ≡ 0 → (out : List ℤ) → out ≡ sets causes 0 (causesCells (marketIn state) v) → Answered (pos 0) out
       unfolding whyAnswer causesAfter
-      written z list e out f =
-          let i = in-limits (marketIn state .resources) v z in
-          let t : marketIn state .resources ≤ mostResources = omega (arith, i .few, i .count) in
-          let g : list ≡ causesOf (marketIn state) v = e ∙ ap (λ (n : ℕ). causesUnless n (causesOf (marketIn state) v)) z in
-          let o : out ≡ next = f ∙ ap (λ (l : List Cause). sets causes 0 (flatMap cellsOf l)) g ∙ ap (sets causes 0) (causes-are (marketIn state) v t) in
-          let a = answers.written room number next causes nothing nothing enough z out o nothing refl in
-          (a .0, a .1 .0)
+      written z out o = let a = answers.written room number next causes nothing nothing enough z out o nothing refl in (a .0, a .1 .0)

@@ -36,10 +36,9 @@ pub extern "C" fn noskjerf_why(
         factors,
         parameter,
     );
-    let market = market_cells::market_in(state);
     let added = v.parameter;
-    let found = cutting::causes_of(
-        market,
+    let outcome = cutting::causes_into(
+        state,
         v.constraints,
         &v.shadow,
         v.resources,
@@ -49,12 +48,10 @@ pub extern "C" fn noskjerf_why(
         &v.floor,
         &v.factors,
         added,
+        causes,
     );
-    let outcome = found.outcome;
     if let Outcome::Refused(refusal) = outcome {
         return curve::refusal_number(refusal) as i64;
     }
-    let list = found.list;
-    causes::put_causes(causes, list);
     0
 }

@@ -1,5 +1,5 @@
 -- Laws of the parts of a block. Assumes nothing.
-use Prim.Native.Nat.{ℕ, zero, suc, _+_, _*_, _-_, _≤_}
+use Prim.Native.Nat.{ℕ, zero, suc, _+_, _*_, _-_, _≤_, _<_}
 use mathlib.Core.Path.{_≡_, refl, ap, _∙_}
 use mathlib.Core.List.{List}
 use native.Mathlib.Omega.{arith}
@@ -12,15 +12,17 @@ use Rattle.rules_number.specs.Order.{natOf}
 use Rattle.rules_number.proofs.ListedLaws.{listed-is}
 use Rattle.rules_number.proofs.OverLaws.{both}
 use Rattle.rules_curve.specs.Refusals.{outcomeNumber}
-use Rattle.rules_curve.specs.Curves.{mostSteps, mostBidSteps, lowestBid, highestBid, curveOf, unlessRefused, bidRefusal, defaultRefusal}
+use Rattle.rules_curve.specs.Curves.{mostSteps, mostBidSteps, lowestBid, highestBid, curveOf, blankCurve, unlessRefused, curveRefusal, bidRefusal, defaultRefusal}
 use Rattle.rules_curve.proofs.CheckLaws.{checks-good}
-use Rattle.rules_curve.specs.declared.Checked.{Checked}
+use Rattle.rules_curve.specs.declared.Curve.{Curve}
 use Rattle.rules_curve.specs.declared.RawCurve.{RawCurve}
 use Rattle.rules_cost.specs.Costs.{costRefusal, costCurve}
 use Rattle.rules_cost.specs.declared.Costs.{Costs}
 use Rattle.rules_opening.specs.Resources.{sourceRefusal, defaultBy}
 use Rattle.rules_opening.specs.declared.Source.the-variants.{Pack}
 use Rattle.rules_library.specs.Slices.{cellAt, rawBid}
+use Rattle.cost.specs.Cells.{inCells}
+use Rattle.cost.specs.declared.DefaultCells.{DefaultCells}
 use Rattle.rules_state.specs.Layout.{blockRoom}
 use Rattle.rules_state.specs.Openings.{blockOf, sourceOf, rawFrom, resourceIn}
 
@@ -44,6 +46,15 @@ pack-number (pos zero) h = absurd (h refl)
 pack-number (pos (suc n)) h = refl
 pack-number (negsuc n) h = refl
 
+-- a curve that is taken has no more steps than it may
+pub curve-few : (most : ℕ) (low top : ℤ) (c : RawCurve) → curveRefusal most low top c ≡ 0 → c .count ≤ most
+curve-few most low top c e = leb-true (c .count) most (both (leb 1 (c .count)) (leb (c .count) most) (checks-good most low top c e .0) .1)
+
+-- a refused one is blank
+pub refused-blank : (n : ℕ) (c : Curve) → 0 < n → unlessRefused n c ≡ blankCurve
+refused-blank zero c h = absurd (omega arith)
+refused-blank (suc n) c h = refl
+
 -- ---- the parts of its resource
 module _ (b : List ℤ) where
   pub bid-in : rawFrom b 1 ≡ resourceIn b .bid
@@ -54,22 +65,24 @@ module _ (b : List ℤ) where
   unfolding resourceIn
   bid-by e f g = rw (e, f, g)
 
+  pub pack-by : {start : ℤ} {n : ℕ} {steps : List ℤ} → start ≡ cellAt b 56 → n ≡ natOf (cellAt b 57) → steps ≡ drop 58 b → rawBid start n steps ≡ resourceIn b .pack
+  unfolding resourceIn
+  pack-by e f g = rw (e, f, g)
+
   -- a bid that is taken has at most eleven steps
   pub bid-few : (month : ℕ) → bidRefusal month (resourceIn b .bid) ≡ 0 → natOf (cellAt b 2) ≤ mostSteps
   unfolding resourceIn
-  bid-few month e =
-      let n = natOf (cellAt b 2) in
-      omega (arith, leb-true n mostBidSteps (both (leb 1 n) (leb n mostBidSteps) (checks-good mostBidSteps lowestBid (highestBid month) (rawFrom b 1) e .0) .1))
+  bid-few month e = omega (arith, curve-few mostBidSteps lowestBid (highestBid month) (rawFrom b 1) e)
 
-  module _ (x : Checked) where
-    pub by-costs : (d : Costs) → cellAt b 25 ≡ pos 0 → d ≡ resourceIn b .costs → outcomeNumber (x .outcome) ≡ costRefusal d → x .curve ≡ unlessRefused (costRefusal d) (costCurve d)
+  module _ (x : DefaultCells) where
+    pub by-costs : (d : Costs) → cellAt b 25 ≡ pos 0 → d ≡ resourceIn b .costs → outcomeNumber (x .outcome) ≡ costRefusal d → x ≡ inCells (x .outcome) (unlessRefused (costRefusal d) (costCurve d))
         → (outcomeNumber (x .outcome) ≡ sourceRefusal (resourceIn b .source) (resourceIn b))
-        × (x .curve ≡ unlessRefused (sourceRefusal (resourceIn b .source) (resourceIn b)) (defaultBy (resourceIn b .source) (resourceIn b)))
+        × (x ≡ inCells (x .outcome) (unlessRefused (sourceRefusal (resourceIn b .source) (resourceIn b)) (defaultBy (resourceIn b .source) (resourceIn b))))
     unfolding resourceIn
-    by-costs d e f n c = rw e (n ∙ ap costRefusal f, c ∙ ap (λ y. unlessRefused (costRefusal y) (costCurve y)) f)
+    by-costs d e f n c = rw e (n ∙ ap costRefusal f, c ∙ ap (λ (y : Costs). inCells (x .outcome) (unlessRefused (costRefusal y) (costCurve y))) f)
 
-    pub by-pack : (d : RawCurve) → (cellAt b 25 ≡ pos 0 → ⊥) → d ≡ resourceIn b .pack → outcomeNumber (x .outcome) ≡ defaultRefusal d → x .curve ≡ unlessRefused (defaultRefusal d) (curveOf d)
+    pub by-pack : (d : RawCurve) → (cellAt b 25 ≡ pos 0 → ⊥) → d ≡ resourceIn b .pack → outcomeNumber (x .outcome) ≡ defaultRefusal d → x ≡ inCells (x .outcome) (unlessRefused (defaultRefusal d) (curveOf d))
         → (outcomeNumber (x .outcome) ≡ sourceRefusal (resourceIn b .source) (resourceIn b))
-        × (x .curve ≡ unlessRefused (sourceRefusal (resourceIn b .source) (resourceIn b)) (defaultBy (resourceIn b .source) (resourceIn b)))
+        × (x ≡ inCells (x .outcome) (unlessRefused (sourceRefusal (resourceIn b .source) (resourceIn b)) (defaultBy (resourceIn b .source) (resourceIn b))))
     unfolding resourceIn
-    by-pack d e f n c = rw (pack-number (cellAt b 25) e) (n ∙ ap defaultRefusal f, c ∙ ap (λ y. unlessRefused (defaultRefusal y) (curveOf y)) f)
+    by-pack d e f n c = rw (pack-number (cellAt b 25) e) (n ∙ ap defaultRefusal f, c ∙ ap (λ (y : RawCurve). inCells (x .outcome) (unlessRefused (defaultRefusal y) (curveOf y))) f)

@@ -26,7 +26,7 @@ use Rattle.rules_state.specs.Openings.{blockOf, resourceIn, openingIn}
 use Rattle.rules_state.specs.OpenedInto.{openTo, refusalAt, partCells, openedPart, openedInto}
 use Rattle.rules_state.specs.States.{standingCells, quarterCells, marketCells, rowCells}
 use Rattle.rules_state.specs.Takes.{ifAccepted, openedCells}
-use Rattle.market_puts.proofs.CurveLaws.{market-length}
+use Rattle.opening_cells.proofs.CurveLaws.{market-length}
 use Rattle.opening.proofs.OpeningLaws.{in-room, refused-counts, refused-sellers, refused-owners, each-left}
 use Rattle.opening_cells.proofs.OpenLaws.{fresh-zeros, resource-is, sellers-are, owners-are, resources-room, portfolios-room, any-month, skipped, open-all}
 

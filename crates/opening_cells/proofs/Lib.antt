@@ -2,5 +2,7 @@
 pub mod BlockLaws
 pub mod RunLaws
 pub mod OpenLaws
+pub mod CellLaws
 pub mod StepLaws
 pub mod IntoLaws
+pub mod CurveLaws

@@ -28,7 +28,7 @@ use Rattle.rules_state.specs.Openings.{blockOf, resourceIn, openingIn}
 use Rattle.rules_state.specs.OpenedInto.{openTo}
 use Rattle.rules_state.specs.States.{rowFrom, cellOf, floorsCells, standingCells, quarterCells, marketCells, rowCells}
 use Rattle.rules_state.specs.Takes.{ifAccepted}
-use Rattle.market_puts.proofs.CurveLaws.{market-put}
+use Rattle.opening_cells.proofs.CurveLaws.{market-put}
 use Rattle.opening.proofs.OpeningLaws.{each-stops}
 
 -- ---- a list and its padding, as cells

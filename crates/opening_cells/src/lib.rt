@@ -1,27 +1,28 @@
 // What an hour is opened from, read from lent slices of numbers: a block for each resource, and a number past a slice's end counts as 0; and an hour opened from
 // them into its cells. The contracts cite the definitions of rules_state.
-use rules_curve::Checked;
+use cost::DefaultCells;
+use rules_cost::Costs;
 use rules_curve::Curve;
 use rules_curve::Outcome;
-use rules_curve::RawCurve;
 use rules_curve::Refusal;
 use rules_interval::Interval;
-use rules_opening::Opening;
-use rules_opening::Resource;
-use rules_opening::Source;
 use rules_path::Market;
+ghost use mathlib.Core.Bool.{true, _&&_};
+ghost use lib.Dec.{leb};
 ghost use mathlib.Core.List.{_++_, map, flatMap};
 ghost use mathlib.Core.Path.{_≡_};
 ghost use Prim.Native.Nat.{_+_, _-_, _*_, _≤_, _<_};
 ghost use lib.IntN.{pos};
 ghost use lib.ListN.{length};
 ghost use lib.Seq.{sets};
+ghost use lib.Signed.{leZ};
 ghost use Rattle.rules_number.specs.Order.{natOf};
 ghost use Rattle.rules_number.specs.Over.{allTo, listed, padded};
-ghost use Rattle.rules_curve.specs.Curves.{mostSteps, stepsOf, endOf, edgesGood, pricesGood, curveOf, bidRefusal, unlessRefused};
+ghost use Rattle.rules_curve.specs.Curves.{mostSteps, stepsOf, endOf, edgesGood, pricesGood, curveOf, curveRefusal, bidRefusal, defaultRefusal, checkedDefault, unlessRefused};
+ghost use Rattle.cost.specs.Cells.{inCells};
 ghost use Rattle.rules_curve.specs.Refusals.{outcomeNumber, eachTo};
 ghost use Rattle.rules_opening.specs.Openings.{isKnown, openingRefusal, marketOf};
-ghost use Rattle.rules_opening.specs.Resources.{liesInside, sourceRefusal, defaultBy, resourceRefusal, rowOf};
+ghost use Rattle.rules_opening.specs.Resources.{sourceRefusal, defaultBy, resourceRefusal, rowOf};
 ghost use Rattle.rules_hour.specs.Hours.{freshStanding};
 ghost use Rattle.rules_pass.specs.Passes.{freshQuarter};
 ghost use Rattle.rules_library.specs.Slices.{cellAt, rawBid};
@@ -29,7 +30,7 @@ ghost use Rattle.rules_state.specs.Layout.{mostResources, mostPortfolios, rowsF
 ghost use Rattle.rules_state.specs.OpenedInto.{openTo, openedInto};
 ghost use Rattle.rules_state.specs.States.{rowFrom, cellOf, standingCells, quarterCells, marketCells, curveCells, rowCells};
 ghost use Rattle.rules_state.specs.Takes.{ifAccepted};
-ghost use Rattle.rules_state.specs.Openings.{numbersIn, blockOf, sourceOf, rawFrom, resourceIn, openingIn};
+ghost use Rattle.rules_state.specs.Openings.{blockOf, resourceIn, openingIn};
 
 // The block of resource r.
 fn block_of(blocks: &[i64], r: usize) -> [i64; rules_state::BLOCK_ROOM]
@@ -37,106 +38,20 @@ fn block_of(blocks: &[i64], r: usize) -> [i64; rules_state::BLOCK_ROOM]
     ensures { λ x. ⌜ x ≡ blockOf (now (blocks .entry)) r ⌝ }
 {
     let mut block = [0i64; rules_state::BLOCK_ROOM];
-    let mut k: usize = 0;
-    while k < rules_state::BLOCK_ROOM {
-        block[k] = cells::cell_at(blocks, rules_state::BLOCK_ROOM * r + k);
-        k += 1;
-    }
+    cell_copies::fill(&mut block, blocks, rules_state::BLOCK_ROOM * r);
     block
 }
 
-// 0 stands for costs, any other number for a pack.
-fn source_of(number: i64) -> Source
-    ensures { λ x. ⌜ x ≡ sourceOf number ⌝ }
-{
-    if number == 0 {
-        return Source::Costs;
-    }
-    Source::Pack
-}
-
-// A curve of a block: its start, its number of steps, and end and price of each in turn.
-fn raw_from(block: &[i64], from: usize) -> RawCurve
-    requires { ⌜ from + 2 ≤ length (now block) ⌝ }
-    ensures { λ x. ⌜ x ≡ rawFrom (now (block .entry)) from ⌝ }
-{
-    let first = from + 2;
-    RawCurve {
-        start: cells::cell_at(block, from),
-        count: cells::whole_at(block, from + 1) as usize,
-        steps: slices::steps_in(&block[first..]),
-    }
-}
-
-// A resource, by its block.
-fn resource_in(block: &[i64]) -> Resource
+// The costs of a block.
+fn costs_of(block: &[i64]) -> Costs
     requires { ⌜ length (now block) ≡ blockRoom ⌝ }
-    ensures { λ x. ⌜ x ≡ resourceIn (now (block .entry)) ⌝ }
+    ensures { λ x. ⌜ x ≡ resourceIn (now (block .entry)) .costs ⌝ }
 {
-    Resource {
-        portfolio: cells::cell_at(block, 0),
-        bid: raw_from(block, 1),
-        source: source_of(cells::cell_at(block, 25)),
-        costs: slices::costs_in(
-            cells::whole_at(block, 26) as usize,
-            &block[27..],
-            &block[49..],
-        ),
-        pack: raw_from(block, 56),
-    }
-}
-
-// Resource r of these blocks.
-fn resource_at(blocks: &[i64], r: usize) -> Resource
-    requires { ⌜ r < mostResources ⌝ }
-    ensures { λ x. ⌜ x ≡ resourceIn (blockOf (now (blocks .entry)) r) ⌝ }
-{
-    let block = block_of(blocks, r);
-    resource_in(&block)
-}
-
-// Each resource, by its block.
-fn list_in(blocks: &[i64]) -> [Resource; Interval::MAX_RESOURCES]
-    ensures { λ x. ⌜ x ≡ listed (λ r. resourceIn (blockOf (now (blocks .entry)) r)) mostResources ⌝ }
-{
-    let mut list = [resource_at(blocks, 0); Interval::MAX_RESOURCES];
-    let mut r: usize = 1;
-    while r < Interval::MAX_RESOURCES {
-        list[r] = resource_at(blocks, r);
-        r += 1;
-    }
-    list
-}
-
-// The mark of each portfolio.
-fn sellers_in(sellers: &[i64]) -> [i64; Market::MAX_PORTFOLIOS]
-    ensures { λ x. ⌜ x ≡ numbersIn (now (sellers .entry)) mostPortfolios ⌝ }
-{
-    let mut marks = [0i64; Market::MAX_PORTFOLIOS];
-    let mut p: usize = 0;
-    while p < Market::MAX_PORTFOLIOS {
-        marks[p] = cells::cell_at(sellers, p);
-        p += 1;
-    }
-    marks
-}
-
-pub fn opening_in(
-    month: i64,
-    portfolios: usize,
-    sellers: &[i64],
-    resources: usize,
-    blocks: &[i64],
-) -> Opening
-    ensures { λ o. ⌜ o ≡ openingIn month portfolios (now (sellers .entry)) resources (now (blocks .entry)) ⌝ }
-{
-    Opening {
-        month,
-        portfolios,
-        sellers: sellers_in(sellers),
-        resources,
-        list: list_in(blocks),
-    }
+    slices::costs_in(
+        cells::whole_at(block, 26) as usize,
+        &block[27..],
+        &block[49..],
+    )
 }
 
 // Whether the portfolio of each of the first n resources is known: else 10.
@@ -227,28 +142,12 @@ fn put_fresh(
     );
 }
 
-// The default curve of a block, or the lowest refusal of its costs or pack.
-fn default_in(block: &[i64]) -> Checked
-    requires { ⌜ length (now block) ≡ blockRoom ⌝ }
-    ensures number { λ x. ⌜ outcomeNumber (x .outcome) ≡ sourceRefusal (resourceIn (now (block .entry)) .source) (resourceIn (now (block .entry))) ⌝ }
-    ensures curve { λ x. ⌜ x .curve ≡ unlessRefused (sourceRefusal (resourceIn (now (block .entry)) .source) (resourceIn (now (block .entry)))) (defaultBy (resourceIn (now (block .entry)) .source) (resourceIn (now (block .entry)))) ⌝ }
-{
-    if cells::cell_at(block, 25) == 0 {
-        return cost::default_curve(slices::costs_in(
-            cells::whole_at(block, 26) as usize,
-            &block[27..],
-            &block[49..],
-        ));
-    }
-    curve_checks::checked_default(raw_from(block, 56))
-}
-
 // Whether no edge calls for refusal 2, of a curve with this start whose steps have end and price of each in turn.
 fn edges_good(start: i64, n: usize, steps: &[i64]) -> bool
     requires { ⌜ (n ≤ mostSteps) × (2 * mostSteps ≤ length (now steps)) ⌝ }
     ensures { λ x. ⌜ x ≡ edgesGood (rawBid start n (now (steps .entry))) ⌝ }
 {
-    if !number::within(start, 0, Curve::MAX_QUANTITY) {
+    if start < 0 {
         return false;
     }
     let mut p = start;
@@ -258,18 +157,15 @@ fn edges_good(start: i64, n: usize, steps: &[i64]) -> bool
         if end <= p {
             return false;
         }
-        if Curve::MAX_QUANTITY < end {
-            return false;
-        }
         p = end;
         i += 1;
     }
-    true
+    p <= Curve::MAX_QUANTITY
 }
 
 // Whether no price calls for refusal 3; a curve's prices don't depend on its start.
 fn prices_good(n: usize, steps: &[i64], low: i64, top: i64) -> bool
-    requires { ⌜ (n ≤ mostSteps) × (2 * mostSteps ≤ length (now steps)) ⌝ }
+    requires { ⌜ (n ≤ mostSteps) × ((2 * mostSteps ≤ length (now steps)) × (leZ low top ≡ true)) ⌝ }
     ensures { λ x. ⌜ x ≡ pricesGood low top (rawBid (pos 0) n (now (steps .entry))) ⌝ }
 {
     let mut p = low;
@@ -279,13 +175,30 @@ fn prices_good(n: usize, steps: &[i64], low: i64, top: i64) -> bool
         if price < p {
             return false;
         }
-        if top < price {
-            return false;
-        }
         p = price;
         i += 1;
     }
-    true
+    p <= top
+}
+
+// A curve of so many steps at most, with prices from low to top.
+fn curve_outcome(start: i64, n: usize, steps: &[i64], most: usize, low: i64, top: i64) -> Outcome
+    requires { ⌜ (most ≤ mostSteps) × ((2 * mostSteps ≤ length (now steps)) × (leZ low top ≡ true)) ⌝ }
+    ensures { λ x. ⌜ outcomeNumber x ≡ curveRefusal most low top (rawBid start n (now (steps .entry))) ⌝ }
+{
+    if n == 0 {
+        return Outcome::Refused(Refusal::StepCount);
+    }
+    if most < n {
+        return Outcome::Refused(Refusal::StepCount);
+    }
+    if !edges_good(start, n, steps) {
+        return Outcome::Refused(Refusal::Edge);
+    }
+    if !prices_good(n, steps, low, top) {
+        return Outcome::Refused(Refusal::Price);
+    }
+    Outcome::Accepted
 }
 
 // A bid, by month since the rule took effect.
@@ -293,19 +206,14 @@ fn bid_outcome(start: i64, n: usize, steps: &[i64], month: u64) -> Outcome
     requires { ⌜ 2 * mostSteps ≤ length (now steps) ⌝ }
     ensures { λ x. ⌜ outcomeNumber x ≡ bidRefusal month (rawBid start n (now (steps .entry))) ⌝ }
 {
-    if n == 0 {
-        return Outcome::Refused(Refusal::StepCount);
-    }
-    if Curve::MAX_BID_STEPS < n {
-        return Outcome::Refused(Refusal::StepCount);
-    }
-    if !edges_good(start, n, steps) {
-        return Outcome::Refused(Refusal::Edge);
-    }
-    if !prices_good(n, steps, Curve::LOWEST_BID, curve::highest_bid(month)) {
-        return Outcome::Refused(Refusal::Price);
-    }
-    Outcome::Accepted
+    curve_outcome(
+        start,
+        n,
+        steps,
+        Curve::MAX_BID_STEPS,
+        Curve::LOWEST_BID,
+        curve::highest_bid(month),
+    )
 }
 
 // Where it ends: at its last step's end, or at its start where it has no step.
@@ -319,39 +227,104 @@ fn end_at(start: i64, n: usize, steps: &[i64]) -> u64
     number::whole(steps[2 * (n - 1)])
 }
 
-// Whether it lies inside a default curve: else 11.
-fn lies_inside(start: i64, n: usize, steps: &[i64], default: Curve) -> bool
+// Whether it lies inside a default curve with this start and this end: else 11.
+fn lies_inside(start: i64, n: usize, steps: &[i64], from: u64, to: u64) -> bool
     requires { ⌜ (n ≤ mostSteps) × (2 * mostSteps ≤ length (now steps)) ⌝ }
-    ensures { λ x. ⌜ x ≡ liesInside (curveOf (rawBid start n (now (steps .entry)))) default ⌝ }
+    ensures { λ x. ⌜ x ≡ (leb from (curveOf (rawBid start n (now (steps .entry))) .start) && leb (endOf (curveOf (rawBid start n (now (steps .entry))) .start) (stepsOf (curveOf (rawBid start n (now (steps .entry)))))) to) ⌝ }
 {
-    if number::whole(start) < default.start {
+    if number::whole(start) < from {
         return false;
     }
-    end_at(start, n, steps) <= resource::end_of(default)
+    end_at(start, n, steps) <= to
 }
 
-// Puts the prices of n steps from a cell on, and zeros as far as there is room.
-fn put_prices(state: &mut [i64], at: usize, steps: &[i64], n: usize)
-    requires { ⌜ (at + mostSteps ≤ stateRoom) × (n ≤ mostSteps) ⌝ }
-    ensures { λ x. ⌜ now (state .exit) ≡ sets (now (state .entry)) at (listed (λ k. cellAt (now (steps .entry)) (2 * k + 1)) n ++ listed (λ k. pos 0) (mostSteps - n)) ⌝ }
+// The cells of a curve of these numbers.
+fn curve_of(start: i64, n: usize, steps: &[i64]) -> [i64; rules_state::CURVE_ROOM]
+    requires { ⌜ (n ≤ mostSteps) × (2 * mostSteps ≤ length (now steps)) ⌝ }
+    ensures { λ x. ⌜ x ≡ curveCells (curveOf (rawBid start n (now (steps .entry)))) ⌝ }
 {
+    let mut curve = [0i64; rules_state::CURVE_ROOM];
+    curve[0] = n as i64;
+    curve[1] = number::max(start, 0);
     let mut k: usize = 0;
     while k < n {
-        cells::put(state, at + k, cells::cell_at(steps, 2 * k + 1));
+        curve[2 + k] = number::max(steps[2 * k], 0);
+        curve[2 + Curve::MAX_STEPS + k] = steps[2 * k + 1];
         k += 1;
     }
-    clear(state, at + n, Curve::MAX_STEPS - n);
+    curve
+}
+
+// The default curve of a pack with these numbers, or the lowest of refusals 1 to 3 that applies.
+fn pack_in(start: i64, n: usize, steps: &[i64]) -> DefaultCells
+    requires { ⌜ 2 * mostSteps ≤ length (now steps) ⌝ }
+    ensures number { λ x. ⌜ outcomeNumber (x .outcome) ≡ defaultRefusal (rawBid start n (now (steps .entry))) ⌝ }
+    ensures curve { λ x. ⌜ x ≡ inCells (x .outcome) (checkedDefault (rawBid start n (now (steps .entry)))) ⌝ }
+{
+    let outcome = curve_outcome(
+        start,
+        n,
+        steps,
+        Curve::MAX_STEPS,
+        Curve::LOWEST_DEFAULT,
+        Curve::HIGHEST_DEFAULT,
+    );
+    let Outcome::Accepted = outcome else {
+        return DefaultCells {
+            outcome,
+            start: 0,
+            end: 0,
+            cells: [0i64; rules_state::CURVE_ROOM],
+        };
+    };
+    let cells = curve_of(start, n, steps);
+    DefaultCells {
+        outcome: Outcome::Accepted,
+        start: number::whole(start),
+        end: end_at(start, n, steps),
+        cells,
+    }
+}
+
+// The default curve of a block, or the lowest refusal of its costs or pack.
+fn default_in(block: &[i64]) -> DefaultCells
+    requires { ⌜ length (now block) ≡ blockRoom ⌝ }
+    ensures number { λ x. ⌜ outcomeNumber (x .outcome) ≡ sourceRefusal (resourceIn (now (block .entry)) .source) (resourceIn (now (block .entry))) ⌝ }
+    ensures curve { λ x. ⌜ x ≡ inCells (x .outcome) (unlessRefused (sourceRefusal (resourceIn (now (block .entry)) .source) (resourceIn (now (block .entry)))) (defaultBy (resourceIn (now (block .entry)) .source) (resourceIn (now (block .entry))))) ⌝ }
+{
+    if cells::cell_at(block, 25) == 0 {
+        return cost::default_cells(costs_of(block));
+    }
+    pack_in(
+        cells::cell_at(block, 56),
+        cells::whole_at(block, 57) as usize,
+        &block[58..],
+    )
+}
+
+// Puts the cells of a curve from a cell on.
+fn put_cells(state: &mut [i64], at: usize, curve: &[i64; rules_state::CURVE_ROOM])
+    requires { ⌜ (at ≤ stateRoom) × (length (now curve) ≡ curveRoom) ⌝ }
+    ensures { λ x. ⌜ now (state .exit) ≡ sets (now (state .entry)) at (now (curve .entry)) ⌝ }
+{
+    if state.len() <= at {
+        return;
+    }
+    let room = number::at_most(rules_state::CURVE_ROOM, state.len() - at);
+    let mut k: usize = 0;
+    while k < room {
+        state[at + k] = curve[k];
+        k += 1;
+    }
 }
 
 // Puts a curve from a cell on, of these numbers.
 fn put_steps(state: &mut [i64], at: usize, start: i64, n: usize, steps: &[i64])
-    requires { ⌜ (at + curveRoom ≤ stateRoom) × (n ≤ mostSteps) ⌝ }
+    requires { ⌜ (at + curveRoom ≤ stateRoom) × ((n ≤ mostSteps) × (2 * mostSteps ≤ length (now steps))) ⌝ }
     ensures { λ x. ⌜ now (state .exit) ≡ sets (now (state .entry)) at (curveCells (curveOf (rawBid start n (now (steps .entry))))) ⌝ }
 {
-    cells::put_whole(state, at, n as u64);
-    cells::put_whole(state, at + 1, number::whole(start));
-    put_padded(state, at + 2, steps, 2, n, Curve::MAX_STEPS);
-    put_prices(state, at + 2 + Curve::MAX_STEPS, steps, n);
+    let curve = curve_of(start, n, steps);
+    put_cells(state, at, &curve);
 }
 
 // Puts the row of a block from a cell on, or answers its first refusal.
@@ -367,17 +340,17 @@ fn put_block(month: u64, block: &[i64], at: usize, state: &mut [i64]) -> Outcome
     let Outcome::Accepted = outcome else {
         return outcome;
     };
-    let checked = default_in(block);
-    let outcome = checked.outcome;
+    let default = default_in(block);
+    let outcome = default.outcome;
     let Outcome::Accepted = outcome else {
         return outcome;
     };
-    let default = checked.curve;
-    if !lies_inside(start, n, &block[3..], default) {
+    if !lies_inside(start, n, &block[3..], default.start, default.end) {
         return Outcome::Refused(Refusal::OutsideDefault);
     }
     put_steps(state, at, start, n, &block[3..]);
-    market_puts::put_curve(state, at + rules_state::CURVE_ROOM, default);
+    let curve = default.cells;
+    put_cells(state, at + rules_state::CURVE_ROOM, &curve);
     Outcome::Accepted
 }
 

@@ -169,8 +169,8 @@ fn opened_small(
     opened_in(s, at, n, month, portfolios, sellers, m, &mut blocks, state)
 }
 
-// The same of any number of resources.
-fn opened_large(
+// The same of any number of resources: of more than 4 in a large array.
+fn opened_with(
     s: &[u8],
     at: usize,
     n: usize,
@@ -185,6 +185,20 @@ fn opened_large(
     requires { ⌜ n + length (lines (drop at (now s))) ≤ 66000 + length (now s) ⌝ }
     ensures { λ r. ⌜ Opened (now (s .entry)) n at (lastThree m (openingWith month portfolios (now (sellers .entry)) m (now (portfolio .entry)) (now (start .entry))) n (lines (drop at (now (s .entry))))) (now (state .entry)) (now (state .exit)) r ⌝ }
 {
+    if m <= SMALL {
+        return opened_small(
+            s,
+            at,
+            n,
+            month,
+            portfolios,
+            sellers,
+            m,
+            portfolio,
+            start,
+            state,
+        );
+    }
     let mut blocks = [0i64; ROOM];
     owners_into(portfolio, start, m, &mut blocks);
     opened_in(s, at, n, month, portfolios, sellers, m, &mut blocks, state)
@@ -211,21 +225,7 @@ fn opened_after(
     let owners = two_columns_at(s, at, &mut portfolio, &mut start);
     let m = owners.count;
     let n = n + 1 + m;
-    if m <= SMALL {
-        return opened_small(
-            s,
-            owners.next,
-            n,
-            month,
-            portfolios,
-            sellers,
-            m,
-            &portfolio,
-            &start,
-            state,
-        );
-    }
-    opened_large(
+    opened_with(
         s,
         owners.next,
         n,

@@ -1,10 +1,7 @@
 // The lines of a refusal (paper 01, Text), put into a lent buffer at an offset. The contracts cite the definitions of rules_page.
 use rules_text::Printed;
 ghost use mathlib.Core.Path.{_≡_};
-ghost use Prim.Native.Nat.{_+_, _≤_};
 ghost use lib.IntN.{pos};
-ghost use lib.ListN.{length};
-ghost use lib.Seq.{sets};
 ghost use Rattle.rules_text.specs.Printing.{refusalText};
 ghost use Rattle.rules_page.specs.Pages.{printable as printableOf};
 ghost use Rattle.rules_page.specs.Pages.{refusalRoom, putWithin, putWithinTo};
@@ -13,24 +10,13 @@ ghost use Rattle.rules_page.specs.Pages.{refusalRoom, putWithin, putWithinTo};
 pub const REFUSAL_ROOM: usize = 64;
 
 // A quantity as it is printed.
-fn printable(n: u64) -> i64
+pub fn printable(n: u64) -> i64
     ensures { λ r. ⌜ r ≡ pos (printableOf n) ⌝ }
 {
     if n < 9_223_372_036_854_775_807 {
         return n as i64;
     }
     9_223_372_036_854_775_807
-}
-
-// Puts a names line at an offset, and answers the offset after it.
-fn put_names(out: &mut [u8], at: usize, names: &[u8]) -> usize
-    requires { ⌜ at + length (now names) ≤ length (now out) ⌝ }
-    ensures { λ r. ⌜ (now (out .exit) ≡ sets (now (out .entry)) at (now (names .entry))) × (r ≡ at + length (now (names .entry))) ⌝ }
-{
-    match print::print_names(out, at, names) {
-        Printed::To(next) => next,
-        Printed::Full => at,
-    }
 }
 
 // Prints the lines of a refusal, its number and its line, where there is room.
@@ -41,7 +27,7 @@ pub fn print_refusal(out: &mut [u8], at: usize, number: u64, line: u64) -> Print
     if !number::has_room(out.len(), at, REFUSAL_ROOM) {
         return Printed::Full;
     }
-    let next = put_names(out, at, b"refusal line\n");
+    let next = print::put_names(out, at, b"refusal line\n");
     let row = [printable(number), printable(line), 0, 0, 0];
     print::print_line(out, next, row, 2)
 }

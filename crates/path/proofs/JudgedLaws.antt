@@ -1,24 +1,19 @@
--- A refusal carries no verdicts, and verdicts are put one after the other. Assumes nothing.
+-- A refusal leaves the cells, and verdicts are put one after the other. Assumes nothing.
 use mathlib.Core.List.{List}
 use mathlib.Core.Path.{_≡_, refl, sym, ap, ap₂, _∙_}
 use Prim.Native.Nat.{ℕ, zero, suc, _+_, _*_, _≤_, _<_}
 use native.Mathlib.Omega.{arith}
 use lib.IntN.{ℤ}
-use lib.ListN.{length, getD, replicate}
+use lib.ListN.{length, getD}
 use lib.Seq.{sets}
 use Rattle.rules_number.specs.Over.{listed}
 use Rattle.rules_number.proofs.OverLaws.{listed-length, listed-at}
 use Rattle.rules_path.specs.Verdicts.{notBinding}
-use Rattle.rules_path.specs.Judgements.{verdictsUnless}
 use Rattle.rules_path.specs.declared.Verdict.{Verdict}
 use Rattle.rules_state.specs.Layout.{verdictWidth}
 use Rattle.rules_state.specs.Takes.{ifAccepted}
 use Rattle.rules_state.specs.Verdicts.{verdictCells, verdictsCells}
 use Rattle.cells.proofs.PutLaws.{BlocksLeft, blocks-begin, blocks-go-on, blocks-end}
-
-pub refused-verdicts : (n : ℕ) (l : List Verdict) → 0 < n → verdictsUnless n l ≡ replicate 32 notBinding
-refused-verdicts zero l h = absurd (omega arith)
-refused-verdicts (suc n) l h = refl
 
 pub refused-cells : (n : ℕ) (written l : List ℤ) → 0 < n → l ≡ ifAccepted n written l
 refused-cells zero written l h = absurd (omega arith)

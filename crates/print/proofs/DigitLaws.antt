@@ -8,7 +8,7 @@ use native.Mathlib.Omega.{arith}
 use native.Mathlib.Nat.{mod-lt, pow-suc}
 use lib.Bits.{bitAnd, and-block, and-mask}
 use lib.ListN.{length, take, getD, set, length-append}
-use lib.Seq.{sets}
+use lib.Seq.{sets, set-set}
 use lib.IntN.{ℤ, pos, negsuc, natAbs}
 use lib.Signed.{ltZ}
 use Rattle.rules_number.proofs.OverLaws.{never, le-or-lt}
@@ -99,6 +99,12 @@ split n h m l u e f =
 -- what is put after a text, and the two are a text
 pub after : (out l : List ℕ) (at i : ℕ) (a b c : List ℕ) → l ≡ sets out at a → i ≡ at + length a → a ++ b ≡ c → sets l i b ≡ sets out at c
 after out l at i a b c e f g = ap₂ (λ (m : List ℕ) (j : ℕ). sets m j b) e f ∙ sym (sets-append out at a b) ∙ ap (sets out at) g
+
+-- the same, over a byte that was put after the text
+pub over : (out l : List ℕ) (at i x y : ℕ) (a b : List ℕ) → l ≡ sets out at (a ++ (x ∷ [])) → i ≡ at + length a → sets l i (y ∷ b) ≡ sets out at (a ++ (y ∷ b))
+over out l at i x y a b e f =
+    ap₂ (λ (m : List ℕ) (j : ℕ). sets m j (y ∷ b)) (e ∙ sets-append out at a (x ∷ [])) f
+    ∙ ap (λ (m : List ℕ). sets m (suc (at + length a)) b) (set-set (sets out at a) (at + length a) x y) ∙ sym (sets-append out at a (y ∷ b))
 
 pub two-stores : (out : List ℕ) (at i x y u v : ℕ) → x ≡ u → i ≡ suc at → y ≡ v → set (set out at x) i y ≡ sets out at (u ∷ v ∷ [])
 two-stores out at i x y u v e f g = rw (e, f, g)

@@ -2,7 +2,7 @@
 use rules_text::Printed;
 use text_numbers::closing;
 ghost use mathlib.Core.Path.{_≡_};
-ghost use mathlib.Core.Bool.{true, false};
+ghost use mathlib.Core.Bool.{true, false, cond};
 ghost use mathlib.Core.List.{[], _∷_, _++_};
 ghost use Prim.Native.Nat.{_+_, _*_, _/_, _%_, _^_, _<_, _≤_};
 ghost use lib.ListN.{length, take};
@@ -10,7 +10,7 @@ ghost use lib.Seq.{sets};
 ghost use lib.Dec.{leb};
 ghost use lib.IntN.{natAbs, pos};
 ghost use lib.Signed.{ltZ};
-ghost use Rattle.rules_text.specs.Printing.{digits, sign, decimal, lineText, printed, printedTo};
+ghost use Rattle.rules_text.specs.Printing.{digits, decimal, lineText, holds, printed, printedTo};
 
 fn magnitude(x: i64) -> u64
     ensures { λ r. ⌜ r ≡ natAbs x ⌝ }
@@ -26,26 +26,8 @@ fn digit_count(n: u64) -> usize
     requires { ⌜ n < 10 ^ 19 ⌝ }
     ensures { λ r. ⌜ r ≡ length (digits 19 n) ⌝ }
 {
-    if n < 10000 {
-        if n < 10 {
-            return 1;
-        }
-        if n < 100 {
-            return 2;
-        }
-        if n < 1000 {
-            return 3;
-        }
-        return 4;
-    }
-    if n < 100000 {
-        return 5;
-    }
-    if n < 1000000 {
-        return 6;
-    }
-    let mut count = 7;
-    let mut bound: u64 = 10000000;
+    let mut count = 1;
+    let mut bound: u64 = 10;
     while bound <= n {
         bound *= 10;
         count += 1;
@@ -205,6 +187,21 @@ fn put_many(out: &mut [u8], at: usize, n: u64, end: u8) -> usize
     put_tail(out, at + 4, left, end)
 }
 
+// Puts the digits of n and then four, and answers the offset after them. The byte that closes up to four digits is put over.
+fn put_high(out: &mut [u8], at: usize, n: u64, four: u64) -> usize
+    requires { ⌜ (n < 10 ^ 19) × (four < 10000) × (at + length (digits 19 n) + 4 ≤ length (now out)) ⌝ }
+    ensures { λ r. ⌜ (now (out .exit) ≡ sets (now (out .entry)) at (digits 19 n ++ ((48 + four / 1000) ∷ (48 + four / 100 % 10) ∷ (48 + four / 10 % 10) ∷ (48 + four % 10) ∷ []))) × (r ≡ at + length (digits 19 n) + 4) ⌝ }
+{
+    if n < 10_000 {
+        let p = put_few(out, at, n, 48) - 1;
+        put_four(out, p, four);
+        return p + 4;
+    }
+    let p = put_digits(out, at, n);
+    put_four(out, p, four);
+    p + 4
+}
+
 // Puts a number of nine digits or more, and the byte that closes it.
 fn put_long(out: &mut [u8], at: usize, n: u64, end: u8) -> usize
     requires { ⌜ (100000000 ≤ n) × (n < 10 ^ 19) × (at + length (digits 19 n) < length (now out)) ⌝ }
@@ -213,9 +210,8 @@ fn put_long(out: &mut [u8], at: usize, n: u64, end: u8) -> usize
     let high = n / 100_000_000;
     let left = n - high * 100_000_000;
     let top = left / 10_000;
-    let p = put_digits(out, at, high);
-    put_four(out, p, top);
-    put_tail(out, p + 4, left - top * 10_000, end)
+    let p = put_high(out, at, high, top);
+    put_tail(out, p, left - top * 10_000, end)
 }
 
 // Puts the digits of n and the byte that closes them at an offset, and answers the offset after it.
@@ -233,18 +229,6 @@ fn put_closed(out: &mut [u8], at: usize, n: u64, end: u8) -> usize
         return put_many(out, at, n, end);
     }
     put_long(out, at, n, end)
-}
-
-// Puts the minus of a negative number at an offset, and answers the offset after it.
-fn put_sign(out: &mut [u8], at: usize, x: i64) -> usize
-    requires { ⌜ at + length (sign x) ≤ length (now out) ⌝ }
-    ensures { λ r. ⌜ (now (out .exit) ≡ sets (now (out .entry)) at (sign x)) × (r ≡ at + length (sign x)) ⌝ }
-{
-    if x < 0 {
-        out[at] = 45;
-        return at + 1;
-    }
-    at
 }
 
 // Puts a number and the byte that closes it at an offset, and answers the offset after it.
@@ -311,14 +295,14 @@ fn put_line(out: &mut [u8], at: usize, v: [i64; 5], k: usize) -> usize
     p
 }
 
-// Puts a names line at an offset, and answers the offset after it.
-fn put_names(out: &mut [u8], at: usize, names: &[u8]) -> usize
-    requires { ⌜ at + length (now names) ≤ length (now out) ⌝ }
-    ensures { λ r. ⌜ (now (out .exit) ≡ sets (now (out .entry)) at (now (names .entry))) × (r ≡ at + length (now (names .entry))) ⌝ }
+// Puts bytes at an offset, and answers the offset after them.
+fn put_bytes(out: &mut [u8], at: usize, bytes: &[u8]) -> usize
+    requires { ⌜ at + length (now bytes) ≤ length (now out) ⌝ }
+    ensures { λ r. ⌜ (now (out .exit) ≡ sets (now (out .entry)) at (now (bytes .entry))) × (r ≡ at + length (now (bytes .entry))) ⌝ }
 {
     let mut i = 0;
-    while i < names.len() {
-        out[at + i] = names[i];
+    while i < bytes.len() {
+        out[at + i] = bytes[i];
         i += 1;
     }
     at + i
@@ -416,13 +400,14 @@ pub fn print_line(out: &mut [u8], at: usize, v: [i64; 5], k: usize) -> Printed
     Printed::To(put_step(out, at, magnitude(a), magnitude(b), c, d))
 }
 
-// Prints a names line at an offset, where it fits.
-pub fn print_names(out: &mut [u8], at: usize, names: &[u8]) -> Printed
-    ensures { λ r. ⌜ now (out .exit) ≡ printed (now (out .entry)) at (now (names .entry)) ⌝ }
-    ensures { λ r. ⌜ r ≡ printedTo (now (out .entry)) at (now (names .entry)) ⌝ }
+// Puts a names line at an offset, where it fits, and answers the offset after it: the same offset where it doesn't.
+pub fn put_names(out: &mut [u8], at: usize, names: &[u8]) -> usize
+    ensures page { λ r. ⌜ now (out .exit) ≡ printed (now (out .entry)) at (now (names .entry)) ⌝ }
+    ensures next { λ r. ⌜ r ≡ cond (holds (now (out .entry)) at (now (names .entry))) (at + length (now (names .entry))) at ⌝ }
+    ensures whole { λ r. ⌜ (at + length (now (names .entry)) ≤ length (now (out .entry)) → (now (out .exit) ≡ sets (now (out .entry)) at (now (names .entry))) × (r ≡ at + length (now (names .entry)))) ⌝ }
 {
     if !number::has_room(out.len(), at, names.len()) {
-        return Printed::Full;
+        return at;
     }
-    Printed::To(put_names(out, at, names))
+    put_bytes(out, at, names)
 }

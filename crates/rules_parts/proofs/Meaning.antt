@@ -20,6 +20,9 @@ unfolding together
 together-append [] ls' = refl
 together-append (l ∷ ls) ls' = ap (λ (t : List ℕ). l ++ t) (together-append ls ls') ∙ sym (append-assoc l (together ls) (together ls'))
 
+text-of : (t : List ℕ) (own ls' : List Line) → lines t ≡ own ++ ls' → t ≡ together own ++ together ls'
+text-of t own ls' e = sym (together-lines t) ∙ ap together e ∙ together-append own ls'
+
 -- a text that is read as an opening is the text of one and what follows; the opening is its values, where its counts are within the limits
 pub record OpeningMeant (t : List ℕ) (a : Opening) (ls' : List Line) : Type 0 where
   pub o : GivenOpening
@@ -31,12 +34,7 @@ pub opening-meant : (n : ℕ) (t : List ℕ) (a : Opening) (n' : ℕ) (ls' : Lis
 unfolding openingText
 opening-meant n t a n' ls' h =
     let i = opening-only n (lines t) a n' ls' h in
-    record {
-      o = i .o;
-      small = i .small;
-      text = sym (together-lines t) ∙ ap together (i .is) ∙ together-append (openingLines (i .o)) ls';
-      value = λ fits. i .value ∙ got-is (i .o) fits;
-    }
+    record { o = i .o; small = i .small; text = text-of t (openingLines (i .o)) ls' (i .is); value = λ fits. i .value ∙ got-is (i .o) fits }
 
 pub record IntervalMeant (t : List ℕ) (a : Interval) (ls' : List Line) : Type 0 where
   pub i : GivenInterval
@@ -48,9 +46,4 @@ pub interval-meant : (n : ℕ) (t : List ℕ) (a : Interval) (n' : ℕ) (ls' : L
 unfolding intervalText
 interval-meant n t a n' ls' h =
     let r = interval-only n (lines t) a n' ls' h in
-    record {
-      i = r .i;
-      small = r .small;
-      text = sym (together-lines t) ∙ ap together (r .is) ∙ together-append (intervalLines (r .i)) ls';
-      value = λ fits. r .value ∙ interval-is (r .i) fits;
-    }
+    record { i = r .i; small = r .small; text = text-of t (intervalLines (r .i)) ls' (r .is); value = λ fits. r .value ∙ interval-is (r .i) fits }

@@ -14,7 +14,7 @@ use lib.IntN.{ℤ, pos, negsuc}
 use Rattle.rules_number.proofs.OverLaws.{never, both, le-or-lt}
 use Rattle.rules_interval.specs.declared.Interval.{Interval}
 use Rattle.rules_text.specs.Numbers.{Line, Row, bytes, same}
-use Rattle.rules_text.specs.Tables.{Reader, found, due, headed, cell, single, run, rows, counted}
+use Rattle.rules_text.specs.Tables.{found, due, cell, single, rows, counted}
 use Rattle.rules_text.proofs.NameLaws.{same-eq}
 use Rattle.rules_parts.specs.Parts.{isDeclared, place, placeOf, isFactor, factorRows, parameterBy, parameterOf, intervalOf, readIntervalBy, readInterval}
 use Rattle.rules_parts.proofs.DeclaredLaws.{declared-below}
@@ -25,8 +25,8 @@ use Rattle.rules_text.specs.Spelled.{Every, no-more, and-all, Small, tableLines
 use Rattle.rules_text.proofs.ReaderLaws.{Values, counted-length}
 use Rattle.rules_parts.proofs.IntervalBack.{parameter-back, got}
 use Rattle.rules_text.proofs.OnlySpelling.{Spelled}
-use Rattle.rules_parts.proofs.OnlyRows.{Suited, Run, goes, ran, Due, Counts, two, headed-only, due-only, single-only, rows-only, counted-only}
-use Rattle.rules_parts.proofs.OnlyOpening.{firsts, firsts-are, firsts-small, counted-as, ones, ones-are, glue}
+use Rattle.rules_parts.proofs.OnlyRows.{Suited, Run, goes, ran, Stage, stage, Due, Counts, due-only, single-only, rows-only, counted-only}
+use Rattle.rules_parts.proofs.OnlyOpening.{firsts-are, firsts-small, counted-as, ones, ones-are, glue}
 
 no : {X : Type 0} → _≡_ {A = ℕ} 0 1 → X
 no e = absurd (omega arith)
@@ -158,85 +158,33 @@ module _ (n m : ℕ) where
       (subst (Factors 0) (sym (q .0)) (factors-of 0 (factorRows n m ls) (ran 3 (isFactor n m) (λ j x. suc (placeOf m x)) 0 ls .runs)), q .1)
 
 -- ---- table after table, from the last
-record FromFour (cs os fs : List Row) (ls : List Line) (a : Interval) (ls' : List Line) : Type 0 where
-  pub below : List Line
-  pub left : List Line
-  pub z : ℤ
-  pub names : ls ≡ bytes "parameter\n" ∷ below
-  pub table : Due parameterOf below z left
-  pub end : left ≡ ls'
-  pub value : a ≡ intervalOf cs os fs z
+abbrev FromFour : List Row → List Row → List Row → Interval → List Line → List Line → Type 0
+FromFour cs os fs a ls' ls = Stage "parameter\n" (Due parameterOf) (λ z left. (left ≡ ls') × (a ≡ intervalOf cs os fs z)) ls
 
-from-four : (cs os fs : List Row) (n : ℕ) (ls : List Line) (a : Interval) (n' : ℕ) (ls' : List Line) → last cs os fs n ls ≡ found a n' ls' → FromFour cs os fs ls a ls'
-from-four cs os fs n ls a n' ls' h =
-    let A = two (headed "parameter\n" (due parameterOf)) (λ p. found (intervalOf cs os fs p)) n ls a n' ls' h in
-    let B = headed-only "parameter\n" (due parameterOf) n ls (A .a) (A .at) (A .left) (A .first) in
-    let q = A .then' in
-    record { below = B .below; left = A .left; z = A .a; names = B .is; table = due-only parameterOf (suc n) (B .below) (A .a) (A .at) (A .left) (B .reads); end = cc; value = cc }
+abbrev FromThree : List Row → List Row → Interval → List Line → List Line → Type 0
+FromThree cs os a ls' ls =
+    Stage "resource constraint factor\n" (λ below fs left. Factors (length os) (length cs) 0 fs × (below ≡ map lineText fs ++ left)) (λ fs left. FromFour cs os fs a ls' left) ls
 
-record FromThree (cs os : List Row) (ls : List Line) (a : Interval) (ls' : List Line) : Type 0 where
-  pub below : List Line
-  pub left : List Line
-  pub fs : List Row
-  pub names : ls ≡ bytes "resource constraint factor\n" ∷ below
-  pub table : Factors (length os) (length cs) 0 fs × (below ≡ map lineText fs ++ left)
-  pub more : FromFour cs os fs left a ls'
+abbrev FromTwo : List Row → Interval → List Line → List Line → Type 0
+FromTwo cs a ls' ls = Stage "resource lmp dispatch available floor\n" (λ below os left. Counts 4 0 os × (below ≡ map lineText os ++ left)) (λ os left. FromThree cs os a ls' left) ls
 
-from-three : (cs os : List Row) (n : ℕ) (ls : List Line) (a : Interval) (n' : ℕ) (ls' : List Line) → lastTwo cs os n ls ≡ found a n' ls' → FromThree cs os ls a ls'
-from-three cs os n ls a n' ls' h =
-    let A = two (headed "resource constraint factor\n" (rows (factorRows (length os) (length cs)))) (λ x. last cs os x) n ls a n' ls' h in
-    let B = headed-only "resource constraint factor\n" (rows (factorRows (length os) (length cs))) n ls (A .a) (A .at) (A .left) (A .first) in
-    record {
-      below = B .below;
-      left = A .left;
-      fs = A .a;
-      names = B .is;
-      table = factors-only (length os) (length cs) (suc n) (B .below) (A .a) (A .at) (A .left) (B .reads);
-      more = from-four cs os (A .a) (A .at) (A .left) a n' ls' (A .then');
-    }
+abbrev FromOne : Interval → List Line → List Line → Type 0
+FromOne a ls' ls = Stage "constraint shadow\n" (λ below cs left. Counts 1 0 cs × (below ≡ map lineText cs ++ left)) (λ cs left. FromTwo cs a ls' left) ls
 
-record FromTwo (cs : List Row) (ls : List Line) (a : Interval) (ls' : List Line) : Type 0 where
-  pub below : List Line
-  pub left : List Line
-  pub os : List Row
-  pub names : ls ≡ bytes "resource lmp dispatch available floor\n" ∷ below
-  pub table : Counts 4 0 os × (below ≡ map lineText os ++ left)
-  pub more : FromThree cs os left a ls'
+module _ (a : Interval) (n' : ℕ) (ls' : List Line) where
+  from-four : (cs os fs : List Row) (n : ℕ) (ls : List Line) → last cs os fs n ls ≡ found a n' ls' → FromFour cs os fs a ls' ls
+  from-four cs os fs n ls h = stage "parameter\n" (due parameterOf) (λ p. found (intervalOf cs os fs p)) n ls a n' ls' (due-only parameterOf) (λ z k u e. (cc, cc)) h
 
-from-two : (cs : List Row) (n : ℕ) (ls : List Line) (a : Interval) (n' : ℕ) (ls' : List Line) → lastThree cs n ls ≡ found a n' ls' → FromTwo cs ls a ls'
-from-two cs n ls a n' ls' h =
-    let A = two (headed "resource lmp dispatch available floor\n" (counted 5)) (λ x. lastTwo cs x) n ls a n' ls' h in
-    let B = headed-only "resource lmp dispatch available floor\n" (counted 5) n ls (A .a) (A .at) (A .left) (A .first) in
-    record {
-      below = B .below;
-      left = A .left;
-      os = A .a;
-      names = B .is;
-      table = counted-only 4 (suc n) (B .below) (A .a) (A .at) (A .left) (B .reads);
-      more = from-three cs (A .a) (A .at) (A .left) a n' ls' (A .then');
-    }
+  from-three : (cs os : List Row) (n : ℕ) (ls : List Line) → lastTwo cs os n ls ≡ found a n' ls' → FromThree cs os a ls' ls
+  from-three cs os n ls h =
+      stage "resource constraint factor\n" (rows (factorRows (length os) (length cs))) (λ x. last cs os x) n ls a n' ls' (factors-only (length os) (length cs)) (from-four cs os) h
 
-record FromOne (ls : List Line) (a : Interval) (ls' : List Line) : Type 0 where
-  pub below : List Line
-  pub left : List Line
-  pub cs : List Row
-  pub names : ls ≡ bytes "constraint shadow\n" ∷ below
-  pub table : Counts 1 0 cs × (below ≡ map lineText cs ++ left)
-  pub more : FromTwo cs left a ls'
+  from-two : (cs : List Row) (n : ℕ) (ls : List Line) → lastThree cs n ls ≡ found a n' ls' → FromTwo cs a ls' ls
+  from-two cs n ls h = stage "resource lmp dispatch available floor\n" (counted 5) (λ x. lastTwo cs x) n ls a n' ls' (counted-only 4) (from-three cs) h
 
-from-one : (n : ℕ) (ls : List Line) (a : Interval) (n' : ℕ) (ls' : List Line) → readInterval n ls ≡ found a n' ls' → FromOne ls a ls'
-unfolding readIntervalBy
-from-one n ls a n' ls' h =
-    let A = two (headed "constraint shadow\n" (counted 2)) (λ x. lastThree x) n ls a n' ls' h in
-    let B = headed-only "constraint shadow\n" (counted 2) n ls (A .a) (A .at) (A .left) (A .first) in
-    record {
-      below = B .below;
-      left = A .left;
-      cs = A .a;
-      names = B .is;
-      table = counted-only 1 (suc n) (B .below) (A .a) (A .at) (A .left) (B .reads);
-      more = from-two (A .a) (A .at) (A .left) a n' ls' (A .then');
-    }
+  from-one : (n : ℕ) (ls : List Line) → readInterval n ls ≡ found a n' ls' → FromOne a ls' ls
+  unfolding readIntervalBy
+  from-one n ls h = stage "constraint shadow\n" (counted 2) (λ x. lastThree x) n ls a n' ls' (counted-only 1) from-two h
 
 -- ---- the tables together
 abbrev linesFour : Option ℤ → List Line
@@ -263,23 +211,23 @@ record Holds (ls : List Line) (a : Interval) (ls' : List Line) : Type 0 where
   pub factors : Factors (length os) (length cs) 0 fs
   pub small : (y : ℤ) → p ≡ some y → Small y
 
-holds-of : (ls : List Line) (a : Interval) (ls' : List Line) → FromOne ls a ls' → Holds ls a ls'
+holds-of : (ls : List Line) (a : Interval) (ls' : List Line) → FromOne a ls' ls → Holds ls a ls'
 holds-of ls a ls' one =
     let two' = one .more in
     let three = two' .more in
     let four = three .more in
-    let P = parameter-only (four .table .line) (four .z) (four .table .reads) in
+    let P = parameter-only (four .table .line) (four .a) (four .table .reads) in
     let c4 : three .left ≡ linesFour (P .p) ++ ls' =
-    four .names ∙ ap (λ (x : List Line). bytes "parameter\n" ∷ x) (four .table .lines ∙ ap (λ (x : Line). x ∷ four .left) (P .line) ∙ ap (λ (x : List Line). parameterLine (P .p) ∷ x) (four .end)) in
-    let c3 = glue (two' .left) (three .below) (three .left) (bytes "resource constraint factor\n") (map lineText (three .fs)) (linesFour (P .p)) ls' (three .names) (three .table .1) c4 in
-    let c2 = glue (one .left) (two' .below) (two' .left) (bytes "resource lmp dispatch available floor\n") (map lineText (two' .os)) (linesThree (three .fs) (P .p)) ls' (two' .names) (two' .table .1) c3 in
+    four .names ∙ ap (λ (x : List Line). bytes "parameter\n" ∷ x) (four .table .lines ∙ ap (λ (x : Line). x ∷ four .left) (P .line) ∙ ap (λ (x : List Line). parameterLine (P .p) ∷ x) (four .more .0)) in
+    let c3 = glue (two' .left) (three .below) (three .left) (bytes "resource constraint factor\n") (map lineText (three .a)) (linesFour (P .p)) ls' (three .names) (three .table .1) c4 in
+    let c2 = glue (one .left) (two' .below) (two' .left) (bytes "resource lmp dispatch available floor\n") (map lineText (two' .a)) (linesThree (three .a) (P .p)) ls' (two' .names) (two' .table .1) c3 in
     record {
-      cs = one .cs;
-      os = two' .os;
-      fs = three .fs;
+      cs = one .a;
+      os = two' .a;
+      fs = three .a;
       p = P .p;
-      is = glue ls (one .below) (one .left) (bytes "constraint shadow\n") (map lineText (one .cs)) (linesTwo (two' .os) (three .fs) (P .p)) ls' (one .names) (one .table .1) c2;
-      value = four .value ∙ ap (intervalOf (one .cs) (two' .os) (three .fs)) (sym (P .value));
+      is = glue ls (one .below) (one .left) (bytes "constraint shadow\n") (map lineText (one .a)) (linesTwo (two' .a) (three .a) (P .p)) ls' (one .names) (one .table .1) c2;
+      value = four .more .1 ∙ ap (intervalOf (one .a) (two' .a) (three .a)) (sym (P .value));
       constraints = one .table .0;
       outputs = two' .table .0;
       factors = three .table .0;
@@ -321,4 +269,4 @@ module _ (ls : List Line) (a : Interval) (ls' : List Line) (H : Holds ls a ls') 
 
 -- whatever is read as an interval is the lines of one, whose numbers have at most 12 digits, and the interval is its values
 pub interval-only : (n : ℕ) (ls : List Line) (a : Interval) (n' : ℕ) (ls' : List Line) → readInterval n ls ≡ found a n' ls' → IsInterval ls a ls'
-interval-only n ls a n' ls' h = finish ls a ls' (holds-of ls a ls' (from-one n ls a n' ls' h))
+interval-only n ls a n' ls' h = finish ls a ls' (holds-of ls a ls' (from-one a n' ls' n ls h))

@@ -9,14 +9,14 @@ use Rattle.rules_curve.specs.declared.RawStep.{RawStep}
 use Rattle.rules_cost.specs.declared.Point.{Point}
 use Rattle.rules_opening.specs.declared.Opening.{Opening}
 use Rattle.rules_text.specs.Numbers.{Line, Row, bytes, lines}
-use Rattle.rules_text.specs.Tables.{Reader, found, due, headed, cell, single, counted, grouped, pairs, each}
+use Rattle.rules_text.specs.Tables.{found, due, cell, single, counted, grouped, pairs, each}
 use Rattle.rules_parts.specs.Parts.{openingOf, readOpening}
 use Rattle.rules_text.specs.Printing.{lineText}
 use Rattle.rules_parts.specs.Texts.{GivenOpening, GivenResource, sellerRow, resourceRow, stepRow, pointRow, costRow, stepRows, pointRows, openingLines, ResourceSmall, OpeningSmall}
 use Rattle.rules_text.specs.Spelled.{Every, no-more, and-all, Small, tableLines, countedRows, groupedRows, together}
 use Rattle.rules_text.proofs.ReaderLaws.{Values, counted-length}
 use Rattle.rules_parts.proofs.OpeningBack.{got, readTwo, readThree, readFour, readFive, readSix}
-use Rattle.rules_parts.proofs.OnlyRows.{Due, Counts, Eaches, Groups, Grouped, group-rows, two, headed-only, due-only, single-only, counted-only, each-only, grouped-only}
+use Rattle.rules_parts.proofs.OnlyRows.{Due, Counts, Eaches, Groups, Grouped, group-rows, Stage, stage, due-only, single-only, counted-only, each-only, grouped-only}
 
 -- ---- values from rows
 abbrev pub firsts : ℕ → Row → Row
@@ -131,127 +131,47 @@ ones-are f e (t ∷ ts) (and-all v h) =
     first (and-all p q) = p
 
 -- ---- table after table, from the last
-record FromSix (month : ℤ) (ps rs : List Row) (ss hs : List (List Row)) (ls : List Line) (a : Opening) (ls' : List Line) : Type 0 where
-  pub below : List Line
-  pub left : List Line
-  pub cs : List Row
-  pub names : ls ≡ bytes "resource gas rate allowance om msc soc fee\n" ∷ below
-  pub table : Eaches 7 (length rs) 0 below cs left
-  pub end : left ≡ ls'
-  pub value : a ≡ openingOf month ps rs ss hs cs
+abbrev FromSix : ℤ → List Row → List Row → List (List Row) → List (List Row) → Opening → List Line → List Line → Type 0
+FromSix month ps rs ss hs a ls' ls =
+    Stage "resource gas rate allowance om msc soc fee\n" (Eaches 7 (length rs) 0) (λ cs left. (left ≡ ls') × (a ≡ openingOf month ps rs ss hs cs)) ls
 
-from-six : (month : ℤ) (ps rs : List Row) (ss hs : List (List Row)) (n : ℕ) (ls : List Line) (a : Opening) (n' : ℕ) (ls' : List Line) → readSix month ps rs ss hs n ls ≡ found a n' ls' → FromSix month ps rs ss hs ls a ls'
-from-six month ps rs ss hs n ls a n' ls' h =
-    let A = two (headed "resource gas rate allowance om msc soc fee\n" (each 8 (length rs) 0)) (λ c. found (openingOf month ps rs ss hs c)) n ls a n' ls' h in
-    let B = headed-only "resource gas rate allowance om msc soc fee\n" (each 8 (length rs) 0) n ls (A .a) (A .at) (A .left) (A .first) in
-    let q = A .then' in
-    record { below = B .below; left = A .left; cs = A .a; names = B .is; table = each-only 7 (length rs) 0 (suc n) (B .below) (A .a) (A .at) (A .left) (B .reads); end = cc; value = cc }
+abbrev FromFive : ℤ → List Row → List Row → List (List Row) → Opening → List Line → List Line → Type 0
+FromFive month ps rs ss a ls' ls = Stage "resource mw heat\n" (Groups (length rs) 0) (λ hs left. FromSix month ps rs ss hs a ls' left) ls
 
-record FromFive (month : ℤ) (ps rs : List Row) (ss : List (List Row)) (ls : List Line) (a : Opening) (ls' : List Line) : Type 0 where
-  pub below : List Line
-  pub left : List Line
-  pub hs : List (List Row)
-  pub names : ls ≡ bytes "resource mw heat\n" ∷ below
-  pub table : Groups (length rs) 0 below hs left
-  pub more : FromSix month ps rs ss hs left a ls'
+abbrev FromFour : ℤ → List Row → List Row → Opening → List Line → List Line → Type 0
+FromFour month ps rs a ls' ls = Stage "resource end price\n" (Groups (length rs) 0) (λ ss left. FromFive month ps rs ss a ls' left) ls
 
-from-five : (month : ℤ) (ps rs : List Row) (ss : List (List Row)) (n : ℕ) (ls : List Line) (a : Opening) (n' : ℕ) (ls' : List Line) → readFive month ps rs ss n ls ≡ found a n' ls' → FromFive month ps rs ss ls a ls'
-from-five month ps rs ss n ls a n' ls' h =
-    let A = two (headed "resource mw heat\n" (grouped pairs (length rs) 0)) (λ x. readSix month ps rs ss x) n ls a n' ls' h in
-    let B = headed-only "resource mw heat\n" (grouped pairs (length rs) 0) n ls (A .a) (A .at) (A .left) (A .first) in
-    record {
-      below = B .below;
-      left = A .left;
-      hs = A .a;
-      names = B .is;
-      table = grouped-only (length rs) 0 (suc n) (B .below) (A .a) (A .at) (A .left) (B .reads);
-      more = from-six month ps rs ss (A .a) (A .at) (A .left) a n' ls' (A .then');
-    }
+abbrev FromThree : ℤ → List Row → Opening → List Line → List Line → Type 0
+FromThree month ps a ls' ls = Stage "resource portfolio start\n" (λ below rs left. Counts 2 0 rs × (below ≡ map lineText rs ++ left)) (λ rs left. FromFour month ps rs a ls' left) ls
 
-record FromFour (month : ℤ) (ps rs : List Row) (ls : List Line) (a : Opening) (ls' : List Line) : Type 0 where
-  pub below : List Line
-  pub left : List Line
-  pub ss : List (List Row)
-  pub names : ls ≡ bytes "resource end price\n" ∷ below
-  pub table : Groups (length rs) 0 below ss left
-  pub more : FromFive month ps rs ss left a ls'
+abbrev FromTwo : ℤ → Opening → List Line → List Line → Type 0
+FromTwo month a ls' ls = Stage "portfolio seller\n" (λ below ps left. Counts 1 0 ps × (below ≡ map lineText ps ++ left)) (λ ps left. FromThree month ps a ls' left) ls
 
-from-four : (month : ℤ) (ps rs : List Row) (n : ℕ) (ls : List Line) (a : Opening) (n' : ℕ) (ls' : List Line) → readFour month ps rs n ls ≡ found a n' ls' → FromFour month ps rs ls a ls'
-from-four month ps rs n ls a n' ls' h =
-    let A = two (headed "resource end price\n" (grouped pairs (length rs) 0)) (λ x. readFive month ps rs x) n ls a n' ls' h in
-    let B = headed-only "resource end price\n" (grouped pairs (length rs) 0) n ls (A .a) (A .at) (A .left) (A .first) in
-    record {
-      below = B .below;
-      left = A .left;
-      ss = A .a;
-      names = B .is;
-      table = grouped-only (length rs) 0 (suc n) (B .below) (A .a) (A .at) (A .left) (B .reads);
-      more = from-five month ps rs (A .a) (A .at) (A .left) a n' ls' (A .then');
-    }
+abbrev FromOne : Opening → List Line → List Line → Type 0
+FromOne a ls' ls = Stage "month\n" (Due single) (λ month left. FromTwo month a ls' left) ls
 
-record FromThree (month : ℤ) (ps : List Row) (ls : List Line) (a : Opening) (ls' : List Line) : Type 0 where
-  pub below : List Line
-  pub left : List Line
-  pub rs : List Row
-  pub names : ls ≡ bytes "resource portfolio start\n" ∷ below
-  pub table : Counts 2 0 rs × (below ≡ map lineText rs ++ left)
-  pub more : FromFour month ps rs left a ls'
+module _ (a : Opening) (n' : ℕ) (ls' : List Line) where
+  from-six : (month : ℤ) (ps rs : List Row) (ss hs : List (List Row)) (n : ℕ) (ls : List Line) → readSix month ps rs ss hs n ls ≡ found a n' ls' → FromSix month ps rs ss hs a ls' ls
+  from-six month ps rs ss hs n ls h =
+      stage "resource gas rate allowance om msc soc fee\n" (each 8 (length rs) 0) (λ c. found (openingOf month ps rs ss hs c)) n ls a n' ls' (each-only 7 (length rs) 0) (λ c k u e. (cc, cc)) h
 
-from-three : (month : ℤ) (ps : List Row) (n : ℕ) (ls : List Line) (a : Opening) (n' : ℕ) (ls' : List Line) → readThree month ps n ls ≡ found a n' ls' → FromThree month ps ls a ls'
-from-three month ps n ls a n' ls' h =
-    let A = two (headed "resource portfolio start\n" (counted 3)) (λ x. readFour month ps x) n ls a n' ls' h in
-    let B = headed-only "resource portfolio start\n" (counted 3) n ls (A .a) (A .at) (A .left) (A .first) in
-    record {
-      below = B .below;
-      left = A .left;
-      rs = A .a;
-      names = B .is;
-      table = counted-only 2 (suc n) (B .below) (A .a) (A .at) (A .left) (B .reads);
-      more = from-four month ps (A .a) (A .at) (A .left) a n' ls' (A .then');
-    }
+  from-five : (month : ℤ) (ps rs : List Row) (ss : List (List Row)) (n : ℕ) (ls : List Line) → readFive month ps rs ss n ls ≡ found a n' ls' → FromFive month ps rs ss a ls' ls
+  from-five month ps rs ss n ls h =
+      stage "resource mw heat\n" (grouped pairs (length rs) 0) (λ x. readSix month ps rs ss x) n ls a n' ls' (grouped-only (length rs) 0) (from-six month ps rs ss) h
 
-record FromTwo (month : ℤ) (ls : List Line) (a : Opening) (ls' : List Line) : Type 0 where
-  pub below : List Line
-  pub left : List Line
-  pub ps : List Row
-  pub names : ls ≡ bytes "portfolio seller\n" ∷ below
-  pub table : Counts 1 0 ps × (below ≡ map lineText ps ++ left)
-  pub more : FromThree month ps left a ls'
+  from-four : (month : ℤ) (ps rs : List Row) (n : ℕ) (ls : List Line) → readFour month ps rs n ls ≡ found a n' ls' → FromFour month ps rs a ls' ls
+  from-four month ps rs n ls h =
+      stage "resource end price\n" (grouped pairs (length rs) 0) (λ x. readFive month ps rs x) n ls a n' ls' (grouped-only (length rs) 0) (from-five month ps rs) h
 
-from-two : (month : ℤ) (n : ℕ) (ls : List Line) (a : Opening) (n' : ℕ) (ls' : List Line) → readTwo month n ls ≡ found a n' ls' → FromTwo month ls a ls'
-from-two month n ls a n' ls' h =
-    let A = two (headed "portfolio seller\n" (counted 2)) (λ x. readThree month x) n ls a n' ls' h in
-    let B = headed-only "portfolio seller\n" (counted 2) n ls (A .a) (A .at) (A .left) (A .first) in
-    record {
-      below = B .below;
-      left = A .left;
-      ps = A .a;
-      names = B .is;
-      table = counted-only 1 (suc n) (B .below) (A .a) (A .at) (A .left) (B .reads);
-      more = from-three month (A .a) (A .at) (A .left) a n' ls' (A .then');
-    }
+  from-three : (month : ℤ) (ps : List Row) (n : ℕ) (ls : List Line) → readThree month ps n ls ≡ found a n' ls' → FromThree month ps a ls' ls
+  from-three month ps n ls h = stage "resource portfolio start\n" (counted 3) (λ x. readFour month ps x) n ls a n' ls' (counted-only 2) (from-four month ps) h
 
-record FromOne (ls : List Line) (a : Opening) (ls' : List Line) : Type 0 where
-  pub below : List Line
-  pub left : List Line
-  pub month : ℤ
-  pub names : ls ≡ bytes "month\n" ∷ below
-  pub table : Due single below month left
-  pub more : FromTwo month left a ls'
+  from-two : (month : ℤ) (n : ℕ) (ls : List Line) → readTwo month n ls ≡ found a n' ls' → FromTwo month a ls' ls
+  from-two month n ls h = stage "portfolio seller\n" (counted 2) (λ x. readThree month x) n ls a n' ls' (counted-only 1) (from-three month) h
 
-from-one : (n : ℕ) (ls : List Line) (a : Opening) (n' : ℕ) (ls' : List Line) → readOpening n ls ≡ found a n' ls' → FromOne ls a ls'
-unfolding readOpening
-from-one n ls a n' ls' h =
-    let A = two (headed "month\n" (due single)) (λ x. readTwo x) n ls a n' ls' h in
-    let B = headed-only "month\n" (due single) n ls (A .a) (A .at) (A .left) (A .first) in
-    record {
-      below = B .below;
-      left = A .left;
-      month = A .a;
-      names = B .is;
-      table = due-only single (suc n) (B .below) (A .a) (A .at) (A .left) (B .reads);
-      more = from-two (A .a) (A .at) (A .left) a n' ls' (A .then');
-    }
+  from-one : (n : ℕ) (ls : List Line) → readOpening n ls ≡ found a n' ls' → FromOne a ls' ls
+  unfolding readOpening
+  from-one n ls h = stage "month\n" (due single) (λ x. readTwo x) n ls a n' ls' (due-only single) from-two h
 
 -- ---- the tables together
 abbrev fromFive : List (List Row) → List Row → List Line
@@ -291,34 +211,34 @@ pub record Opens (ls : List Line) (a : Opening) (ls' : List Line) : Type 0 where
   pub costs : Counts 7 0 cs
   pub many : length (costs .tails) ≡ length rs
 
-opens-of : (ls : List Line) (a : Opening) (ls' : List Line) → FromOne ls a ls' → Opens ls a ls'
+opens-of : (ls : List Line) (a : Opening) (ls' : List Line) → FromOne a ls' ls → Opens ls a ls'
 opens-of ls a ls' one =
     let two' = one .more in
     let three = two' .more in
     let four = three .more in
     let five = four .more in
     let six = five .more in
-    let M = single-only (one .table .line) (one .month) (one .table .reads) in
-    let c6 : five .left ≡ tableLines (bytes "resource gas rate allowance om msc soc fee\n") (six .cs) ++ ls' =
-    six .names ∙ ap (λ (x : List Line). bytes "resource gas rate allowance om msc soc fee\n" ∷ x) (six .table .is ∙ ap (λ (x : List Line). map lineText (six .cs) ++ x) (six .end)) in
-    let c5 = glue (four .left) (five .below) (five .left) (bytes "resource mw heat\n") (map lineText (together (five .hs))) (tableLines (bytes "resource gas rate allowance om msc soc fee\n") (six .cs)) ls' (five .names) (five .table .is) c6 in
-    let c4 = glue (three .left) (four .below) (four .left) (bytes "resource end price\n") (map lineText (together (four .ss))) (fromFive (five .hs) (six .cs)) ls' (four .names) (four .table .is) c5 in
-    let c3 = glue (two' .left) (three .below) (three .left) (bytes "resource portfolio start\n") (map lineText (three .rs)) (fromFour (four .ss) (five .hs) (six .cs)) ls' (three .names) (three .table .1) c4 in
-    let c2 = glue (one .left) (two' .below) (two' .left) (bytes "portfolio seller\n") (map lineText (two' .ps)) (fromThree (three .rs) (four .ss) (five .hs) (six .cs)) ls' (two' .names) (two' .table .1) c3 in
+    let M = single-only (one .table .line) (one .a) (one .table .reads) in
+    let c6 : five .left ≡ tableLines (bytes "resource gas rate allowance om msc soc fee\n") (six .a) ++ ls' =
+    six .names ∙ ap (λ (x : List Line). bytes "resource gas rate allowance om msc soc fee\n" ∷ x) (six .table .is ∙ ap (λ (x : List Line). map lineText (six .a) ++ x) (six .more .0)) in
+    let c5 = glue (four .left) (five .below) (five .left) (bytes "resource mw heat\n") (map lineText (together (five .a))) (tableLines (bytes "resource gas rate allowance om msc soc fee\n") (six .a)) ls' (five .names) (five .table .is) c6 in
+    let c4 = glue (three .left) (four .below) (four .left) (bytes "resource end price\n") (map lineText (together (four .a))) (fromFive (five .a) (six .a)) ls' (four .names) (four .table .is) c5 in
+    let c3 = glue (two' .left) (three .below) (three .left) (bytes "resource portfolio start\n") (map lineText (three .a)) (fromFour (four .a) (five .a) (six .a)) ls' (three .names) (three .table .1) c4 in
+    let c2 = glue (one .left) (two' .below) (two' .left) (bytes "portfolio seller\n") (map lineText (two' .a)) (fromThree (three .a) (four .a) (five .a) (six .a)) ls' (two' .names) (two' .table .1) c3 in
     record {
-      month = one .month;
-      ps = two' .ps;
-      rs = three .rs;
-      ss = four .ss;
-      hs = five .hs;
-      cs = six .cs;
-      is = glue ls (one .below) (one .left) (bytes "month\n") (lineText (one .month ∷ []) ∷ []) (fromTwo (two' .ps) (three .rs) (four .ss) (five .hs) (six .cs)) ls' (one .names) (one .table .lines ∙ ap (λ (x : Line). x ∷ one .left) (M .0)) c2;
-      value = six .value;
+      month = one .a;
+      ps = two' .a;
+      rs = three .a;
+      ss = four .a;
+      hs = five .a;
+      cs = six .a;
+      is = glue ls (one .below) (one .left) (bytes "month\n") (lineText (one .a ∷ []) ∷ []) (fromTwo (two' .a) (three .a) (four .a) (five .a) (six .a)) ls' (one .names) (one .table .lines ∙ ap (λ (x : Line). x ∷ one .left) (M .0)) c2;
+      value = six .more .1;
       small = M .1;
       portfolios = two' .table .0;
       resources = three .table .0;
-      steps = group-rows (length (three .rs)) (four .below) (four .ss) (four .left) (four .table);
-      points = group-rows (length (three .rs)) (five .below) (five .hs) (five .left) (five .table);
+      steps = group-rows (length (three .a)) (four .below) (four .a) (four .left) (four .table);
+      points = group-rows (length (three .a)) (five .below) (five .a) (five .left) (five .table);
       costs = six .table .counts;
       many = six .table .many;
     }
@@ -366,4 +286,4 @@ module _ (ls : List Line) (a : Opening) (ls' : List Line) (O : Opens ls a ls') w
 
 -- whatever is read as an opening is the lines of one, whose numbers have at most 12 digits, and the opening is its values
 pub opening-only : (n : ℕ) (ls : List Line) (a : Opening) (n' : ℕ) (ls' : List Line) → readOpening n ls ≡ found a n' ls' → IsOpening ls a ls'
-opening-only n ls a n' ls' h = finish ls a ls' (opens-of ls a ls' (from-one n ls a n' ls' h)) (resources ls a ls' (opens-of ls a ls' (from-one n ls a n' ls' h)))
+opening-only n ls a n' ls' h = finish ls a ls' (opens-of ls a ls' (from-one a n' ls' n ls h)) (resources ls a ls' (opens-of ls a ls' (from-one a n' ls' n ls h)))

@@ -51,6 +51,30 @@ unfolding headed
 headed-only names r n [] a n' ls' h = no (cc)
 headed-only names r n (l ∷ ls) a n' ls' h = headed-by names r n l ls a n' ls' (same (bytes names) l) refl h
 
+-- a table below its names, and what is read after it
+pub record Stage {A : Type 0} (title : String) (Table : List Line → A → List Line → Type 0) (More : A → List Line → Type 0) (ls : List Line) : Type 0 where
+  pub below : List Line
+  pub left : List Line
+  pub a : A
+  pub names : ls ≡ bytes title ∷ below
+  pub table : Table below a left
+  pub more : More a left
+
+pub stage : {A B : Type 0} (title : String) (r : Reader A) (f : A → Reader B) {Table : List Line → A → List Line → Type 0} {More : A → List Line → Type 0} (n : ℕ) (ls : List Line) (b : B) (n' : ℕ) (ls' : List Line)
+    → ((k : ℕ) (u : List Line) (a : A) (m : ℕ) (v : List Line) → r k u ≡ found a m v → Table u a v) → ((a : A) (k : ℕ) (u : List Line) → f a k u ≡ found b n' ls' → More a u)
+    → (headed title r ▷ f) n ls ≡ found b n' ls' → Stage title Table More ls
+stage title r f n ls b n' ls' table more h =
+    let A = two (headed title r) f n ls b n' ls' h in
+    let B = headed-only title r n ls (A .a) (A .at) (A .left) (A .first) in
+    record {
+      below = B .below;
+      left = A .left;
+      a = A .a;
+      names = B .is;
+      table = table (suc n) (B .below) (A .a) (A .at) (A .left) (B .reads);
+      more = more (A .a) (A .at) (A .left) (A .then');
+    }
+
 pub record Due {A : Type 0} (is : Line → Option A) (ls : List Line) (a : A) (ls' : List Line) : Type 0 where
   pub line : Line
   pub lines : ls ≡ line ∷ ls'

@@ -29,8 +29,11 @@ pub record Own {A : Type 0} (r : Reader A) (n : ℕ) (ls : List Line) (a : A) (n
   pub reads : (other : List Line) → r n (own ++ other) ≡ found a n' other
 
 -- the lines that were used are the own ones
-own-count : (n n' : ℕ) (ls own ls' : List Line) → ls ≡ own ++ ls' → n' + length ls' ≡ n + length ls → n' ≡ n + length own
-own-count n n' ls own ls' e u = omega (arith, ap length e, length-append own ls')
+own-of : {A : Type 0} (r : Reader A) (n : ℕ) (ls own : List Line) (a b : A) (n' : ℕ) (ls' : List Line) → ls ≡ own ++ ls' → n' + length ls' ≡ n + length ls → a ≡ b
+    → ((other : List Line) → r n (own ++ other) ≡ found b (n + length own) other) → Own r n ls a n' ls'
+own-of {A} r n ls own a b n' ls' e u v h =
+    let count : n' ≡ n + length own = omega (arith, ap length e, length-append own ls') in
+    record { own = own; is = e; count = count; reads = λ other. h other ∙ ap₂ (λ (x : A) (k : ℕ). found x k other) (sym v) (sym count) }
 
 -- a part has no more portfolios, resources and constraints than lines
 opening-long : (o : GivenOpening) → (length (o .sellers) ≤ length (openingLines o)) × (length (o .resources) ≤ length (openingLines o))
@@ -48,37 +51,24 @@ interval-long i =
     simp (length-append, length-map) (omega arith)
 
 module _ (n : ℕ) (ls : List Line) (few : length ls ≤ 65536) (n' : ℕ) (ls' : List Line) where
+  own-few : (own : List Line) → ls ≡ own ++ ls' → length own ≤ 65536
+  own-few own e = omega (arith, ap length e, length-append own ls')
+
   pub opening-own : (a : Opening) → readOpening n ls ≡ found a n' ls' → Own readOpening n ls a n' ls'
   opening-own a h =
       let i = opening-only n ls a n' ls' h in
-      let count = own-count n n' ls (openingLines (i .o)) ls' (i .is) (subst (Uses n ls) h (opening-using n ls)) in
       let long = opening-long (i .o) in
-      let size = length-append (openingLines (i .o)) ls' in
-      let all = ap length (i .is) in
-      record {
-        own = openingLines (i .o);
-        is = i .is;
-        count = count;
-        reads = λ other.
-            reads (i .o) (i .small) (omega (arith, long .1, size, all)) (omega (arith, long .0, size, all)) other n
-            ∙ ap₂ (λ (x : Opening) (k : ℕ). found x k other) (sym (i .value)) (sym count);
-      }
+      let own = own-few (openingLines (i .o)) (i .is) in
+      own-of readOpening n ls (openingLines (i .o)) a _ n' ls' (i .is) (subst (Uses n ls) h (opening-using n ls)) (i .value)
+      (λ other. reads (i .o) (i .small) (omega (arith, long .1, own)) (omega (arith, long .0, own)) other n)
 
   pub interval-own : (a : Interval) → readInterval n ls ≡ found a n' ls' → Own readInterval n ls a n' ls'
   interval-own a h =
-      let i = interval-only n ls a n' ls' h in
-      let count = own-count n n' ls (intervalLines (i .i)) ls' (i .is) (subst (Uses n ls) h (interval-using n ls)) in
-      let long = interval-long (i .i) in
-      let size = length-append (intervalLines (i .i)) ls' in
-      let all = ap length (i .is) in
-      record {
-        own = intervalLines (i .i);
-        is = i .is;
-        count = count;
-        reads = λ other.
-            interval-reads (i .i) (i .small) (omega (arith, long .0, size, all)) (omega (arith, long .1, size, all)) other n
-            ∙ ap₂ (λ (x : Interval) (k : ℕ). found x k other) (sym (i .value)) (sym count);
-      }
+      let r = interval-only n ls a n' ls' h in
+      let long = interval-long (r .i) in
+      let own = own-few (intervalLines (r .i)) (r .is) in
+      own-of readInterval n ls (intervalLines (r .i)) a _ n' ls' (r .is) (subst (Uses n ls) h (interval-using n ls)) (r .value)
+      (λ other. interval-reads (r .i) (r .small) (omega (arith, long .0, own)) (omega (arith, long .1, own)) other n)
 
 -- ---- the calls that are taken
 pub record OwnCalls (h : Hour) (n : ℕ) (ls : List Line) (calls : List Interval) (m : ℕ) (rest : List Line) : Type 0 where

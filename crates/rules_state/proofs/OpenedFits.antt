@@ -68,17 +68,17 @@ checked-fits most low top c room passed =
       ends = each-padded (λ s. Small (s .end)) mostSteps blankStep (map stepOf (rawSteps c)) (omega arith) (ends-small (c .start) (rawSteps c) (edges .1));
     }
 
-cost-fits : (c : Costs) → costRefusal c ≡ 0 → CurveFits (costCurve c)
+pub cost-fits : (c : Costs) → costRefusal c ≡ 0 → CurveFits (costCurve c)
 unfolding costCurve
 cost-fits c e =
     rw (← raw-back (natOf (mwAt c 0)) (listed (costStep c) (stepCount c)))
     (checked-fits mostSteps lowestDefault highestDefault (rawOf (costCurve c)) (omega arith) (cost-curve-passes c e))
 
-default-fits : (s : Source) (x : Resource) → sourceRefusal s x ≡ 0 → CurveFits (defaultBy s x)
+pub default-fits : (s : Source) (x : Resource) → sourceRefusal s x ≡ 0 → CurveFits (defaultBy s x)
 default-fits source.Costs x e = cost-fits (x .costs) e
 default-fits source.Pack x e = checked-fits mostSteps lowestDefault highestDefault (x .pack) (omega arith) e
 
-blank-fits : CurveFits blankCurve
+pub blank-fits : CurveFits blankCurve
 unfolding blankCurve padded
 blank-fits = record { start = omega arith; count = omega arith; room = refl; ends = each-blank (λ s. Small (s .end)) mostSteps blankStep (omega arith) }
 

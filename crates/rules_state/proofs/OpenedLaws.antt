@@ -6,7 +6,7 @@ use Prim.Native.Nat.{ℕ, zero, suc, _+_, _-_, _*_, _≤_, _<_}
 use native.Mathlib.Omega.{arith}
 use lib.IntN.{ℤ, pos}
 use lib.ListN.{length, replicate, length-append, length-replicate, List·getD-append, List·getD-eq-default}
-use lib.Seq.{sets, length-sets, getD-append-add}
+use lib.Seq.{sets, length-sets, getD-append-add, ext-getD}
 use Rattle.rules_number.specs.Over.{listed, padded}
 use Rattle.rules_number.proofs.OverLaws.{le-or-lt, listed-length}
 use Rattle.rules_opening.specs.Openings.{resourceAt, openingRefusal, marketOf}
@@ -113,6 +113,15 @@ module _ (o : Opening) (accepted : openingRefusal o ≡ 0) where
         let z : 0 + k ≡ k = omega arith in
         ap (λ (i : ℕ). cellAt opened i) z ∙ put-read n (openedCells o) (omega (arith, opened-room)) k ∙ sym (zeros-after (openedCells o) past (blank-rows spare) k)
         ∙ ap (λ (l : List ℤ). cellAt l k) (sym whole-cells)
+
+    -- put into as many cells as an hour has, they are those of the whole hour
+    pub opened-is : n ≡ stateRoom → opened ≡ stateCells (openedRealTime o)
+    opened-is e =
+        let long : length opened ≡ n = length-sets (replicate n (pos 0)) 0 (openedCells o) ∙ length-replicate n (pos 0) in
+        let same = long ∙ e ∙ sym (state-room (openedRealTime o) (opened-fits o accepted)) in
+        ext-getD (pos 0) opened (stateCells (openedRealTime o)) same (λ k h.
+        let z : k ≡ 0 + k = omega arith in
+        ap (λ (i : ℕ). cellAt opened i) z ∙ stands k (omega (arith, same)))
 
     pub opened-back : hourIn opened ≡ openedRealTime o
     opened-back = hour-back (openedRealTime o) (opened-fits o accepted) opened stands

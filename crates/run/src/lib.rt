@@ -22,7 +22,7 @@ ghost use Rattle.rules_state.specs.Layout.{mostResources, rowsFrom, rowRoom, ve
 ghost use Rattle.rules_state.specs.States.{hourIn, standingIn, marketIn, rowsIn};
 ghost use Rattle.rules_state.specs.Verdicts.{verdictsIn};
 ghost use Rattle.rules_run.specs.Run.{hourText, partsText, output, endedBy, hourEnd, partsEnd, endOf, runRoom, ranWithin, ranTo};
-ghost use Rattle.run.specs.Took.{Took, OpenedBy};
+ghost use Rattle.run.specs.Took.{OpenedBy};
 ghost use Rattle.run.specs.Kept.{floorShown, lengthOf, Kept, Rooms};
 
 // Room for what any text prints: four pages and the lines of a refusal.
@@ -75,17 +75,6 @@ fn put_verdicts(
     ensures { λ r. ⌜ (now (out .exit) ≡ sets (now (out .entry)) at (verdictText i constraints (verdictsIn (now (verdicts .entry))))) × ((r ≡ at + length (verdictText i constraints (verdictsIn (now (verdicts .entry))))) × (r ≤ at + 49152)) ⌝ }
 {
     match verdict_page::print_verdicts(out, at, i, constraints, verdicts) {
-        Printed::To(next) => next,
-        Printed::Full => at,
-    }
-}
-
-// Puts a names line at an offset, and answers the offset after it.
-fn put_names(out: &mut [u8], at: usize, names: &[u8]) -> usize
-    requires { ⌜ at + length (now names) ≤ length (now out) ⌝ }
-    ensures { λ r. ⌜ (now (out .exit) ≡ sets (now (out .entry)) at (now (names .entry))) × (r ≡ at + length (now (names .entry))) ⌝ }
-{
-    match print::print_names(out, at, names) {
         Printed::To(next) => next,
         Printed::Full => at,
     }
@@ -235,7 +224,7 @@ fn put_curves(
     ensures page { λ q. ⌜ Put 114688 (now (out .entry)) at (curveText i (marketIn (now (state .entry)) .resources) (rowsIn (now (state .entry))) (standingIn (now (state .entry)) .floors)) (now (out .exit)) q ⌝ }
     ensures kept { λ q. ⌜ Kept (rowsIn (now (state .entry))) (now (out .exit)) q (now (shown .exit)) (now (lines .exit)) (now (widths .exit)) ⌝ }
 {
-    let next = put_names(out, at, b"interval resource end price\n");
+    let next = print::put_names(out, at, b"interval resource end price\n");
     put_table(out, next, i, state, shown, lines, widths)
 }
 

@@ -4,8 +4,10 @@ use rules_cost::Point;
 use rules_curve::Curve;
 use rules_curve::RawStep;
 ghost use mathlib.Core.Path.{_≡_};
+ghost use Prim.Native.Nat.{_<_};
+ghost use Rattle.rules_cost.specs.Costs.{mostPoints};
 ghost use Rattle.rules_library.specs.Gas.{listBy};
-ghost use Rattle.rules_library.specs.Slices.{stepsIn, pointsIn, costsIn};
+ghost use Rattle.rules_library.specs.Slices.{stepsIn, rawPointAt, pointsIn, costsIn};
 
 // Eleven steps, from end and price of each in turn.
 pub fn steps_in(s: &[i64]) -> [RawStep; Curve::MAX_STEPS]
@@ -22,19 +24,34 @@ pub fn steps_in(s: &[i64]) -> [RawStep; Curve::MAX_STEPS]
     steps
 }
 
-// Eleven points, from quantity and heat rate of each in turn.
+// Point k, of quantity and heat rate of each in turn.
+fn point_at(s: &[i64], k: usize) -> Point
+    requires { ⌜ k < mostPoints ⌝ }
+    ensures { λ r. ⌜ r ≡ rawPointAt (now (s .entry)) k ⌝ }
+{
+    Point {
+        mw: cells::cell_at(s, 2 * k),
+        heat: cells::cell_at(s, 2 * k + 1),
+    }
+}
+
+// Eleven points.
 fn points_in(s: &[i64]) -> [Point; Costs::MAX_POINTS]
     ensures { λ r. ⌜ r ≡ pointsIn (now (s .entry)) ⌝ }
 {
-    let mut points = [Point { mw: 0, heat: 0 }; Costs::MAX_POINTS];
-    let mut i: usize = 0;
-    while i < Costs::MAX_POINTS {
-        let mw = cells::cell_at(s, 2 * i);
-        let heat = cells::cell_at(s, 2 * i + 1);
-        points[i] = Point { mw, heat };
-        i += 1;
-    }
-    points
+    [
+        point_at(s, 0),
+        point_at(s, 1),
+        point_at(s, 2),
+        point_at(s, 3),
+        point_at(s, 4),
+        point_at(s, 5),
+        point_at(s, 6),
+        point_at(s, 7),
+        point_at(s, 8),
+        point_at(s, 9),
+        point_at(s, 10),
+    ]
 }
 
 // Costs, from their points and from gas, rate, allowance, om, msc, soc and fee.

@@ -1,31 +1,16 @@
-// The standing of an hour, its quarter hour, what a cut makes of a floor price, and the present curve of a resource (paper 01, Interval and hour; 31.2.3, 34.1.5;
+// A fresh quarter hour, what a cut makes of a floor price, and the present curve of a resource (paper 01, Interval and hour; 31.2.3, 34.1.5;
 // paper 02, 2.1). The contracts cite the definitions of rules_hour and rules_pass.
 ghost use mathlib.Core.Path.{_≡_};
-ghost use Rattle.rules_curve.specs.Refusals.{outcomeNumber};
-ghost use Rattle.rules_hour.specs.Hours.{freshStanding, cutFloor, rowCurve};
+ghost use Rattle.rules_hour.specs.Hours.{cutFloor, rowCurve};
 ghost use Rattle.rules_mitigation.specs.Mitigation.{blankMitigated};
-ghost use Rattle.rules_pass.specs.Passes.{freshQuarter, begunBy};
-use rules_curve::Outcome;
+ghost use Rattle.rules_pass.specs.Passes.{freshQuarter};
 use rules_curve::Step;
 use rules_hour::Floor;
-use rules_hour::Standing;
 use rules_interval::Interval;
 use rules_mitigation::FloorPrice;
 use rules_mitigation::Mitigated;
 use rules_opening::Row;
 use rules_pass::Quarter;
-
-// The standing of a freshly opened hour.
-pub fn fresh() -> Standing
-    ensures { λ r. ⌜ r ≡ freshStanding ⌝ }
-{
-    Standing {
-        accepted: 0,
-        floors: [Floor {
-            price: FloorPrice::Uncut,
-        }; Interval::MAX_RESOURCES],
-    }
-}
 
 // A quarter hour without a pass.
 pub fn fresh_quarter() -> Quarter
@@ -67,15 +52,5 @@ pub fn blank_curve() -> Mitigated
         start: 0,
         count: 0,
         steps: [Step { end: 0, price: 0 }; Mitigated::MAX_STEPS],
-    }
-}
-
-// The quarter hour after an interval with this outcome: a fresh one where it is accepted.
-pub fn begun(outcome: Outcome, quarter: Quarter) -> Quarter
-    ensures { λ r. ⌜ r ≡ begunBy (outcomeNumber outcome) quarter ⌝ }
-{
-    match outcome {
-        Outcome::Accepted => fresh_quarter(),
-        Outcome::Refused(_) => quarter,
     }
 }

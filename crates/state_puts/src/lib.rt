@@ -1,6 +1,5 @@
-// The standing and the quarter hour of an hour, put into a lent slice of numbers. The contracts cite the definitions of rules_state.
+// The quarter hour of an hour, put into a lent slice of numbers, and the numbers of a floor price. The contracts cite the definitions of rules_state.
 use rules_hour::Floor;
-use rules_hour::Standing;
 use rules_interval::Interval;
 use rules_mitigation::FloorPrice;
 use rules_pass::Quarter;
@@ -10,7 +9,7 @@ ghost use Prim.Native.Nat.{_+_, _≤_};
 ghost use lib.ListN.{length};
 ghost use lib.Seq.{sets};
 ghost use Rattle.rules_state.specs.Layout.{mostResources, countedRoom, quarterFrom, marketFrom};
-ghost use Rattle.rules_state.specs.States.{markOf, priceOf, floorsCells, standingCells, quarterCells};
+ghost use Rattle.rules_state.specs.States.{markOf, priceOf, floorsCells, quarterCells};
 
 // The cut mark of a floor price.
 pub fn mark_of(price: FloorPrice) -> i64
@@ -68,15 +67,7 @@ fn put_floors(state: &mut [i64], at: usize, floors: [Floor; Interval::MAX_RESOUR
     put_prices(state, at + Interval::MAX_RESOURCES, floors);
 }
 
-pub fn put_standing(state: &mut [i64], standing: Standing)
-    ensures room { λ x. ⌜ length (standingCells standing) ≡ countedRoom ⌝ }
-    ensures state { λ x. ⌜ now (state .exit) ≡ sets (now (state .entry)) 0 (standingCells standing) ⌝ }
-{
-    cells::put_whole(state, 0, standing.accepted);
-    let floors = standing.floors;
-    put_floors(state, 1, floors);
-}
-
+// Puts how many passes there were, and their cuts.
 pub fn put_quarter(state: &mut [i64], quarter: Quarter)
     ensures room { λ x. ⌜ length (quarterCells quarter) ≡ countedRoom ⌝ }
     ensures state { λ x. ⌜ now (state .exit) ≡ sets (now (state .entry)) quarterFrom (quarterCells quarter) ⌝ }

@@ -5,11 +5,9 @@ use rules_text::Three;
 use text_numbers::closed_at;
 use text_numbers::closing;
 use text_numbers::id_triple_at;
-use text_numbers::triple_at;
+use text_numbers::is_id;
 ghost use mathlib.Core.Path.{_≡_};
-ghost use lib.IntN.{pos};
 ghost use mathlib.Core.Option.{none};
-ghost use Rattle.rules_number.specs.Order.{eqZ};
 ghost use Rattle.rules_text.specs.Offsets.{asRow, rowAt, threeOf, idRowAt};
 
 fn no_row() -> Row
@@ -48,20 +46,6 @@ pub fn row_at(s: &[u8], at: usize, k: usize) -> Row
         v,
         next: p,
     }
-}
-
-// The three values of the line at an offset, with one space between.
-pub fn three_at(s: &[u8], at: usize) -> Three
-    ensures { λ r. ⌜ r ≡ threeOf (rowAt (now (s .entry)) at 3) ⌝ }
-{
-    triple_at(s, at)
-}
-
-// Whether a value is the id n.
-pub fn is_id(n: usize, x: i64) -> bool
-    ensures { λ r. ⌜ r ≡ eqZ (pos n) x ⌝ }
-{
-    text_numbers::is_id(n, x)
 }
 
 // The k values of the line at an offset, where the first of them is the id n; otherwise no row.

@@ -3,9 +3,9 @@
 use rules_text::Found;
 ghost use mathlib.Core.Path.{_≡_};
 ghost use Prim.Native.Nat.{_+_, _≤_, _<_};
-ghost use lib.ListN.{length, drop};
+ghost use lib.ListN.{length};
 ghost use Rattle.rules_text.specs.Offsets.{namesAt};
-ghost use Rattle.rules_text.specs.Words.{wordIn};
+ghost use Rattle.text_names.specs.Pairs.{pairAt, fourAt, wordAt};
 
 // A byte as a number.
 fn wide(b: u8) -> u64
@@ -17,7 +17,7 @@ fn wide(b: u8) -> u64
 // The number that two bytes at an offset spell, the first the lower.
 fn two_at(s: &[u8], at: usize) -> u64
     requires { ⌜ at + 2 ≤ length (now s) ⌝ }
-    ensures { λ r. ⌜ (r ≡ wordIn 2 (drop at (now (s .entry)))) × (r < 65536) ⌝ }
+    ensures { λ r. ⌜ (r ≡ pairAt (now (s .entry)) at) × (r < 65536) ⌝ }
 {
     let low = wide(s[at]);
     let high = wide(s[at + 1]);
@@ -27,7 +27,7 @@ fn two_at(s: &[u8], at: usize) -> u64
 // The same of four bytes.
 fn four_at(s: &[u8], at: usize) -> u64
     requires { ⌜ at + 4 ≤ length (now s) ⌝ }
-    ensures { λ r. ⌜ (r ≡ wordIn 4 (drop at (now (s .entry)))) × (r < 4294967296) ⌝ }
+    ensures { λ r. ⌜ (r ≡ fourAt (now (s .entry)) at) × (r < 4294967296) ⌝ }
 {
     let low = two_at(s, at);
     let high = two_at(s, at + 2);
@@ -37,7 +37,7 @@ fn four_at(s: &[u8], at: usize) -> u64
 // The same of eight bytes.
 fn word_at(s: &[u8], at: usize) -> u64
     requires { ⌜ at + 8 ≤ length (now s) ⌝ }
-    ensures { λ r. ⌜ r ≡ wordIn 8 (drop at (now (s .entry))) ⌝ }
+    ensures { λ r. ⌜ r ≡ wordAt (now (s .entry)) at ⌝ }
 {
     let low = four_at(s, at);
     let high = four_at(s, at + 4);

@@ -1,16 +1,18 @@
 -- Laws of short numbers, of ids compared as bytes, and of lines of three values. Assumes nothing.
-use Prim.Native.Nat.{ℕ, suc, _+_, _/_, _%_, _^_, _≤_, _<_}
-use mathlib.Core.Path.{_≡_, refl, sym, ap, _∙_}
+use Prim.Native.Nat.{ℕ, suc, _+_, _*_, _/_, _%_, _^_, _≤_, _<_}
+use mathlib.Core.Path.{_≡_, refl, sym, ap, subst, _∙_}
 use mathlib.Core.List.{List, [], _∷_, _++_}
 use mathlib.Core.Option.{Option, none, some}
-use mathlib.Core.Bool.{Bool, true, false, cond}
+use mathlib.Core.Bool.{Bool, true, false, cond, _||_}
 use native.Mathlib.Omega.{arith}
-use borrow.Author.Tests.{eq-eqb, ne-eqb, eqb-true}
+use borrow.Author.Tests.{eq-eqb, ne-eqb, eqb-true, le-leb}
 use lib.Dec.{eqb}
-use lib.ListN.{length, drop, take, getD, set, replicate, length-drop}
-use lib.Seq.{getD-take, getD-drop, drop-drop, length-take-le}
+use lib.ListN.{length, drop, take, getD, set, replicate}
+use lib.Seq.{getD-take, getD-drop, drop-drop}
 use lib.IntN.{ℤ, pos, negℤ}
+use lib.Signed.{mag}
 use Rattle.rules_number.specs.Order.{eqZ}
+use Rattle.rules_number.proofs.Kit.{rd, came}
 use Rattle.rules_number.proofs.OrderLaws.{eqZ-true, eqZ-same}
 use Rattle.rules_text.specs.declared.Magnitude.the-variants.{Spells}
 use Rattle.rules_text.specs.declared.Number.{Number}
@@ -21,9 +23,9 @@ use Rattle.rules_text.specs.Tables.{ifSuits, hasId}
 use Rattle.rules_text.specs.Offsets.{shifted, numberAt, closedBy, asRow, rowAt, threeOf, idRowAt}
 use Rattle.rules_text.specs.Printing.{decimal}
 use Rattle.rules_text.proofs.ListLaws.{at-cons, head-at}
-use Rattle.rules_text.proofs.NumberLaws.{take-few, count-length, mag-is, spelt, number-plain, number-minus}
+use Rattle.rules_text.proofs.NumberLaws.{Reads, reads-start, reads-stop, reads-more, take-few, mag-is, number-plain, number-minus}
 use Rattle.rules_text.proofs.LineLaws.{line}
-use Rattle.rules_text.proofs.RowLaws.{left, rowing-start, rowing-more, rowing-done, row-some, row-in, stepped, missing}
+use Rattle.rules_text.proofs.RowLaws.{left, Rowing, rowing-start, rowing-missing, rowing-more, rowing-done, row-none, row-some, row-in, stepped, missing}
 use Rattle.rules_text.proofs.PrintLaws.{digits-one, digits-more}
 use Rattle.rules_text.proofs.OnlySpelling.{Begins, number-iff}
 use Rattle.text_numbers.specs.Short.{Short, Two}
@@ -38,48 +40,81 @@ space-first [] e = refl
 space-first (b ∷ t) e = ap (λ (x : ℕ). cond (isDigit x) (suc (digitCount t)) 0) e
 
 -- ---- short numbers
-pub digits-within : (s : List ℕ) (at end k : ℕ) → at + end ≤ length s → k ≡ digitCount (take end (drop at s)) → k ≤ end
-digits-within s at end k room count =
-    let long = length-take-le end (drop at s) (omega (arith, length-drop at s)) in
-    omega (arith, long, count-length (take end (drop at s)))
-
-pub short-is : (s : List ℕ) (at b end v k : ℕ) → at + end ≤ length s → v ≡ value 0 (take end (drop at s)) → k ≡ digitCount (take end (drop at s))
-    → (k ≡ end → ⊥) → formed (getD s at 0) k ≡ true → getD s (at + k) 0 ≡ b → Short s at b end v k
-short-is s at b end v k room spelled count fewer-than f c =
-    let t = drop at s in
-    let fewer : k < end = ne-lt k end (digits-within s at end k room count) fewer-than in
-    let w = take-few end 0 t (omega arith) in
-    let n : k ≡ digitCount t = count ∙ w .0 in
-    record {
-      spells =
-          ap (λ (x : ℕ). Spells x k) (spelled ∙ w .1) ∙ ap (Spells (value 0 t)) n
-          ∙ sym (mag-is t (ap (λ (x : ℕ). formed x (digitCount t)) (sym (head-at 0 s at)) ∙ ap (formed (getD s at 0)) (sym n) ∙ f));
-      closed = c;
-      few = fewer;
-    }
-  where
-    ne-lt : (a b : ℕ) → a ≤ b → (a ≡ b → ⊥) → a < b
-    ne-lt a b h e = omega (arith, h, e)
-
 closed-is : (s : List ℕ) (b at n : ℕ) (z : ℤ) → Is z n ≡ numberAt s at → getD s n 0 ≡ b → Is z (n + 1) ≡ closedBy s b (numberAt s at)
 closed-is s b at n z e c = sym (ap (λ (x : Bool). cond x (Is z (n + 1)) Not) (eq-eqb (getD s n 0) b c)) ∙ ap (closedBy s b) e
 
-module _ (s : List ℕ) (b end v k : ℕ) where
-  pub natural : (at : ℕ) → Short s at b end v k → Is (pos v) (at + k + 1) ≡ closedBy s b (numberAt s at)
-  unfolding numberAt
-  natural at h =
-      let w = spelt (drop at s) v k (h .spells) in
-      let n = number-plain (drop at s) (λ e. let z = minus-first (drop at s) e in omega (arith, w .count, w .some)) in
-      closed-is s b at (at + k) (pos v) (sym (ap (shifted at) (n ∙ ap plain (sym (h .spells))))) (h .closed)
+or-true : (b : Bool) → (b || true) ≡ true
+or-true true = refl
+or-true false = refl
 
-  pub negative : (at : ℕ) → getD s at 0 ≡ 45 → Short s (at + 1) b end v k → (v ≡ 0 → ⊥) → Is (negℤ (pos v)) (at + 1 + k + 1) ≡ closedBy s b (numberAt s at)
+-- k digits, of which the first is no 0
+formed-lead : (f k : ℕ) → 1 ≤ k → k ≤ 12 → (f ≡ 48 → ⊥) → formed f k ≡ true
+formed-lead f k a b n = simp (le-leb 1 k a, le-leb k 12 b, ne-eqb f 48 n) (or-true (eqb k 1))
+
+-- k digits spell v, and the byte b closes them
+module _ (s : List ℕ) (at v k : ℕ) (m : Spells v k ≡ magnitude (drop at s)) where
+  natural-is : k ≡ digitCount (drop at s) → 1 ≤ k → (b : ℕ) → getD s (at + k) 0 ≡ b → Is (pos v) (at + k + 1) ≡ closedBy s b (numberAt s at)
   unfolding numberAt
-  negative at e h above =
-      let n = number-minus (drop at s) (sym (head-at 0 s at) ∙ e) in
-      let m : magnitude (drop 1 (drop at s)) ≡ Spells v k = ap magnitude (drop-drop 1 at s) ∙ sym (h .spells) in
-      let q : at + suc k ≡ at + 1 + k = omega arith in
-      closed-is s b at (at + 1 + k) (negℤ (pos v))
-      (sym (ap (shifted at) (n ∙ ap negated m ∙ ap (λ (x : Bool). cond x Not (Is (negℤ (pos v)) (suc k))) (ne-eqb v 0 above)) ∙ ap (Is (negℤ (pos v))) q)) (h .closed)
+  natural-is n has b c =
+      let l = number-plain (drop at s) (λ e. let z = minus-first (drop at s) e in omega (arith, has)) in
+      closed-is s b at (at + k) (pos v) (sym (ap (shifted at) (l ∙ ap plain (sym m)))) c
+
+  negative-is : 1 ≤ v → (b : ℕ) → getD s (at + k) 0 ≡ b → (p : ℕ) → at ≡ p + 1 → getD s p 0 ≡ 45 → Is (negℤ (pos v)) (at + k + 1) ≡ closedBy s b (numberAt s p)
+  unfolding numberAt
+  negative-is above b c p e i =
+      let o = number-minus (drop p s) (sym (head-at 0 s p) ∙ i) in
+      let u : magnitude (drop 1 (drop p s)) ≡ Spells v k = ap magnitude (drop-drop 1 p s ∙ ap (λ (j : ℕ). drop j s) (sym e)) ∙ sym m in
+      let x : p + suc k ≡ at + k = omega arith in
+      closed-is s b p (at + k) (negℤ (pos v))
+      (sym (ap (shifted p) (o ∙ ap negated u ∙ ap (λ (y : Bool). cond y Not (Is (negℤ (pos v)) (suc k))) (ne-eqb v 0 (λ j. omega (arith, above)))) ∙ ap (Is (negℤ (pos v))) x)) c
+
+module _ (s : List ℕ) (at : ℕ) where
+  -- k digits have been read, of which the first is no 0, and spell v
+  pub record Run (v k : ℕ) : Type 0 where
+    pub reads : Reads s at 8 v k
+    pub some : 1 ≤ k
+    pub above : 1 ≤ v
+    pub lead : getD s at 0 ≡ 48 → ⊥
+
+  module _ (room : at + 8 ≤ length s) where
+    pub run-first : (d : ℕ) → (d + 49) % 2 ^ 64 ≡ getD s at 0 → d ≤ 8 → Run (d + 1) 1
+    run-first d e h =
+        let z : at + 0 ≡ at = omega arith in
+        let f : getD s (at + 0) 0 ≡ getD s at 0 = ap (λ (i : ℕ). getD s i 0) z in
+        let m : 0 * 10 + (d + 1) ≡ d + 1 = omega arith in
+        record {
+          reads = subst (λ (x : ℕ). Reads s at 8 x 1) m (reads-more s at 8 room 0 0 (reads-start s at 8) (d + 1) (omega arith) (omega arith) (omega arith));
+          some = omega arith;
+          above = omega arith;
+          lead = λ l. omega arith;
+        }
+
+    module _ (v k : ℕ) (r : Run v k) (d : ℕ) (here : k < 8) (wraps : (d + 48) % 2 ^ 64 ≡ getD s (at + k) 0) where
+      pub run-more : d ≤ 9 → Run (v * 10 + d) (k + 1)
+      run-more h = record {
+        reads = reads-more s at 8 room v k (r .reads) d here wraps h;
+        some = omega arith;
+        above = omega (arith, r .above);
+        lead = r .lead;
+      }
+
+      spells : d < 2 ^ 64 → 9 < d → (Spells v k ≡ magnitude (drop at s)) × (k ≡ digitCount (drop at s))
+      spells f h =
+          let t = drop at s in
+          let q = reads-stop s at 8 room v k (r .reads) d here wraps f h in
+          let w = take-few 8 0 t (omega (arith, q .1)) in
+          let n : k ≡ digitCount t = q .1 ∙ w .0 in (
+            ap (λ (x : ℕ). Spells x k) (q .0 ∙ w .1) ∙ ap (Spells (value 0 t)) n
+                ∙ sym (mag-is t (ap (λ (x : ℕ). formed x (digitCount t)) (sym (head-at 0 s at)) ∙ ap (formed (getD s at 0)) (sym n) ∙ formed-lead (getD s at 0) k (r .some) (omega arith) (r .lead))),
+            n,
+          )
+
+      pub short-is : d < 2 ^ 64 → 9 < d → (b : ℕ) → getD s (at + k) 0 ≡ b → Short s at b v (at + k + 1)
+      short-is f h b c = let m = spells f h in record { natural = natural-is s at v k (m .0) (m .1) (r .some) b c; negative = negative-is s at v k (m .0) (r .above) b c }
+
+-- a number that a call hands back
+pub came-is : {x z : ℤ} {n : ℕ} {y : Number} → mag x < 2 ^ 63 → x ≡ z → Is z n ≡ y → Is (rd x) n ≡ y
+came-is {x} {z} {n} {y} f e i = ap (λ (w : ℤ). Is w n) (came x f ∙ e) ∙ i
 
 -- ---- the id n, of which the text has the decimal d
 module _ (s : List ℕ) (at n : ℕ) (d : List ℕ) (spelled : decimal (pos n) ≡ d) where
@@ -156,18 +191,40 @@ module _ (s : List ℕ) (at n q : ℕ) (is : Is (pos n) q ≡ closedBy s 32 (num
 
 -- ---- lines of three values
 -- what is stored of a row, value by value
-abbrev stored : ℤ → ℤ → ℤ → List ℤ
-stored x y z = set (set (set (replicate 8 (pos 0)) 0 x) 1 y) 2 z
+abbrev one : ℤ → List ℤ
+one x = set (replicate 8 (pos 0)) 0 x
 
-pub three-is : (s : List ℕ) (at q n : ℕ) (x y z : ℤ) → Two s at x y q → Is z n ≡ closedBy s 10 (numberAt s q)
-    → _≡_ {A = Three} (record { ok = true; first = x; second = y; third = z; next = n }) (threeOf (rowAt s at 3))
-three-is s at q n x y z t e =
-    let a = rowing-start s at 3 (omega arith) in
-    let b = rowing-more s at 3 (replicate 8 (pos 0)) at 0 a (omega arith) x (t .past) (t .first) in
-    let c = rowing-more s at 3 (set (replicate 8 (pos 0)) 0 x) (t .past) 1 b (omega arith) y q (t .second) in
-    let d = rowing-more s at 3 (set (set (replicate 8 (pos 0)) 0 x) 1 y) q 2 c (omega arith) z n e in
-    let r = rowing-done s at 3 (stored x y z) n 3 d (omega arith) in
-    ap threeOf (row-some s at 3 refl (stored x y z) n (r .values) (r .end))
+abbrev two : ℤ → ℤ → List ℤ
+two x y = set (one x) 1 y
+
+module _ (s : List ℕ) (at : ℕ) where
+  after-one : (x : ℤ) (p : ℕ) → Is x p ≡ closedBy s 32 (numberAt s at) → Rowing s at 3 (one x) p 1
+  after-one x p e = rowing-more s at 3 (replicate 8 (pos 0)) at 0 (rowing-start s at 3 (omega arith)) (omega arith) x p e
+
+  after-two : (x y : ℤ) (q : ℕ) → Two s at x y q → Rowing s at 3 (two x y) q 2
+  after-two x y q t = rowing-more s at 3 (one x) (t .past) 1 (after-one x (t .past) (t .first)) (omega arith) y q (t .second)
+
+  pub three-is : (q n : ℕ) (x y z : ℤ) → Two s at x y q → Is z n ≡ closedBy s 10 (numberAt s q)
+      → _≡_ {A = Three} (record { ok = true; first = x; second = y; third = z; next = n }) (threeOf (rowAt s at 3))
+  three-is q n x y z t e =
+      let d = rowing-more s at 3 (two x y) q 2 (after-two x y q t) (omega arith) z n e in
+      let r = rowing-done s at 3 (set (two x y) 2 z) n 3 d (omega arith) in
+      ap threeOf (row-some s at 3 refl (set (two x y) 2 z) n (r .values) (r .end))
+
+  -- its first, second or third value is none
+  pub no-first : Not ≡ closedBy s 32 (numberAt s at) → threeOf (asRow 0 none) ≡ threeOf (rowAt s at 3)
+  no-first e = ap threeOf (row-none s at 3 refl (rowing-missing s at 3 (replicate 8 (pos 0)) at 0 (rowing-start s at 3 (omega arith)) (omega arith) e))
+
+  pub no-second : (x : ℤ) (p : ℕ) → Is x p ≡ closedBy s 32 (numberAt s at) → Not ≡ closedBy s 32 (numberAt s p) → threeOf (asRow 0 none) ≡ threeOf (rowAt s at 3)
+  no-second x p i e = ap threeOf (row-none s at 3 refl (rowing-missing s at 3 (one x) p 1 (after-one x p i) (omega arith) e))
+
+  pub no-third : (x y : ℤ) (q : ℕ) → Two s at x y q → Not ≡ closedBy s 10 (numberAt s q) → threeOf (asRow 0 none) ≡ threeOf (rowAt s at 3)
+  no-third x y q t e = ap threeOf (row-none s at 3 refl (rowing-missing s at 3 (two x y) q 2 (after-two x y q t) (omega arith) e))
+
+-- the values of a line that calls hand back
+pub by-fields : {a a' b b' d d' : ℤ} {n : ℕ} → a ≡ a' → b ≡ b' → d ≡ d'
+    → _≡_ {A = Three} (record { ok = true; first = a; second = b; third = d; next = n }) (record { ok = true; first = a'; second = b'; third = d'; next = n })
+by-fields p q r = cc
 
 -- the line's first value is the id n, or is not
 module _ (s : List ℕ) (at n : ℕ) where

@@ -1,4 +1,8 @@
 // Numbers at an offset of a lent text (paper 01, Text). The contracts cite the definitions of rules_text.
+pub mod ids;
+
+use crate::ids::near_end;
+use crate::ids::past_head;
 use rules_text::Magnitude;
 use rules_text::Number;
 use rules_text::Three;
@@ -213,70 +217,77 @@ pub fn closed_at(s: &[u8], at: usize, b: u8) -> Number
     Number::Is(plus(digits.value), at + count + 1)
 }
 
-// Whether m bytes are left at an offset.
-fn has_left(s: &[u8], at: usize, m: usize) -> bool
-    ensures { λ r. ⌜ (r ≡ true → at + m ≤ length (now (s .entry))) ⌝ }
-{
-    if s.len() < m {
-        return false;
-    }
-    at <= s.len() - m
+// What digits spell, and the offset after the byte that closes them; 0 where they are none.
+struct Closed {
+    value: u64,
+    next: usize,
 }
 
-fn no_digits() -> Digits
-    ensures { λ r. ⌜ r .count ≡ 0 ⌝ }
+fn no_number() -> Closed
+    ensures { λ r. ⌜ (r .value ≡ 0) × (r .next ≡ 0) ⌝ }
 {
-    Digits { value: 0, count: 0 }
+    Closed { value: 0, next: 0 }
 }
 
-// The number of fewer than `end` digits at an offset that the byte b closes, or no digits.
-fn short_in(s: &[u8], at: usize, b: u8, end: usize) -> Digits
-    requires { ⌜ (end ≤ 12) × (at + end ≤ length (now s)) ⌝ }
-    ensures { λ r. ⌜ ((r .count ≡ 0 → ⊥) → Short (now (s .entry)) at b end (r .value) (r .count)) ⌝ }
+// The number at an offset of one to seven digits, the first of them no 0, that the byte b closes.
+fn short_in(s: &[u8], at: usize, b: u8) -> Closed
+    requires { ⌜ at + 8 ≤ length (now s) ⌝ }
+    ensures { λ r. ⌜ (r .value < 10 ^ 12) × (r .next ≤ at + 8) ⌝ }
+    ensures { λ r. ⌜ ((r .next ≡ 0 → ⊥) → Short (now (s .entry)) at b (r .value) (r .next)) ⌝ }
 {
-    let digits = digits_in(s, at, end);
-    let count = digits.count;
-    if count == end {
-        return no_digits();
+    let first = wrapping_sub_u64(wide(s[at]), 49);
+    if 8 < first {
+        return no_number();
     }
-    if !is_number(s, at, count) {
-        return no_digits();
+    let mut value = first + 1;
+    let mut count = 1;
+    while count < 8 {
+        let c = s[at + count];
+        let d = wrapping_sub_u64(wide(c), 48);
+        if 9 < d {
+            if c != b {
+                return no_number();
+            }
+            return Closed {
+                value,
+                next: at + count + 1,
+            };
+        }
+        value = value * 10 + d;
+        count += 1;
     }
-    if s[at + count] != b {
-        return no_digits();
-    }
-    digits
+    no_number()
 }
 
-// The id of one or two digits at an offset that a space closes, or no digits.
-fn id_in(s: &[u8], at: usize) -> Digits
+// The id of one or two digits at an offset that a space closes.
+fn id_in(s: &[u8], at: usize) -> Closed
     requires { ⌜ at + 3 ≤ length (now s) ⌝ }
-    ensures { λ r. ⌜ (r .value < 100) × (r .count ≤ 2) ⌝ }
-    ensures { λ r. ⌜ ((r .count ≡ 0 → ⊥) → Is (pos (r .value)) (at + r .count + 1) ≡ closedBy (now (s .entry)) 32 (numberAt (now (s .entry)) at)) ⌝ }
+    ensures { λ r. ⌜ (r .value < 100) × (r .next ≤ at + 3) ⌝ }
+    ensures { λ r. ⌜ ((r .next ≡ 0 → ⊥) → Is (pos (r .value)) (r .next) ≡ closedBy (now (s .entry)) 32 (numberAt (now (s .entry)) at)) ⌝ }
 {
     let first = wrapping_sub_u64(wide(s[at]), 48);
     if s[at + 1] == 32 {
         if 9 < first {
-            return Digits { value: 0, count: 0 };
+            return no_number();
         }
-        return Digits {
+        return Closed {
             value: first,
-            count: 1,
+            next: at + 2,
         };
     }
     if 8 < wrapping_sub_u64(first, 1) {
-        return Digits { value: 0, count: 0 };
+        return no_number();
     }
     let second = wrapping_sub_u64(wide(s[at + 1]), 48);
     if 9 < second {
-        return Digits { value: 0, count: 0 };
+        return no_number();
     }
     if s[at + 2] != 32 {
-        return Digits { value: 0, count: 0 };
+        return no_number();
     }
-    Digits {
+    Closed {
         value: first * 10 + second,
-        count: 2,
+        next: at + 3,
     }
 }
 
@@ -292,64 +303,21 @@ fn no_three() -> Three
     }
 }
 
-// The line at an offset whose values are x, y and the z that `count` digits at another offset spell, or no row where they are none.
-fn natural_last(s: &[u8], at: usize, x: u64, y: u64, from: usize, z: u64, count: usize) -> Three
-    requires { ⌜ (x < 10 ^ 12) × (y < 10 ^ 12) × Two (now s) at (pos x) (pos y) from × ((count ≡ 0 → ⊥) → Short (now s) from 10 8 z count) ⌝ }
+// The line at an offset whose values are x, y and the z at another offset, or no row where the offset after it is 0.
+fn with_last(s: &[u8], at: usize, x: u64, y: u64, q: usize, z: i64, next: usize) -> Three
+    requires { ⌜ (x < 10 ^ 12) × (y < 10 ^ 12) × Two (now s) at (pos x) (pos y) q × ((next ≡ 0 → ⊥) → Is z next ≡ closedBy (now s) 10 (numberAt (now s) q)) ⌝ }
     ensures { λ r. ⌜ (r .ok ≡ true → r ≡ threeOf (rowAt (now (s .entry)) at 3)) ⌝ }
 {
-    if count == 0 {
+    if next == 0 {
         return no_three();
     }
     Three {
         ok: true,
         first: plus(x),
         second: plus(y),
-        third: plus(z),
-        next: from + count + 1,
+        third: z,
+        next,
     }
-}
-
-// The same where a minus stands at that offset, and the digits after it.
-fn negative_last(s: &[u8], at: usize, x: u64, y: u64, from: usize, z: u64, count: usize) -> Three
-    requires { ⌜ (x < 10 ^ 12) × (y < 10 ^ 12) × Two (now s) at (pos x) (pos y) from × (getD (now s) from 0 ≡ 45) × ((count ≡ 0 → ⊥) → Short (now s) (from + 1) 10 8 z count) ⌝ }
-    ensures { λ r. ⌜ (r .ok ≡ true → r ≡ threeOf (rowAt (now (s .entry)) at 3)) ⌝ }
-{
-    if count == 0 {
-        return no_three();
-    }
-    if z == 0 {
-        return no_three();
-    }
-    Three {
-        ok: true,
-        first: plus(x),
-        second: plus(y),
-        third: minus(z),
-        next: from + 1 + count + 1,
-    }
-}
-
-// The line at an offset of two short ids and a short number, or no row.
-fn ids_and_number(s: &[u8], at: usize) -> Three
-    requires { ⌜ at + 15 ≤ length (now s) ⌝ }
-    ensures { λ r. ⌜ (r .ok ≡ true → r ≡ threeOf (rowAt (now (s .entry)) at 3)) ⌝ }
-{
-    let x = id_in(s, at);
-    if x.count == 0 {
-        return no_three();
-    }
-    let p = at + x.count + 1;
-    let y = id_in(s, p);
-    if y.count == 0 {
-        return no_three();
-    }
-    let q = p + y.count + 1;
-    if s[q] == 45 {
-        let z = short_in(s, q + 1, 10, 8);
-        return negative_last(s, at, x.value, y.value, q, z.value, z.count);
-    }
-    let z = short_in(s, q, 10, 8);
-    natural_last(s, at, x.value, y.value, q, z.value, z.count)
 }
 
 // The line at an offset of the id n and two short numbers from an offset on, or no row.
@@ -357,17 +325,17 @@ fn id_and_numbers(s: &[u8], at: usize, n: usize, p: usize) -> Three
     requires { ⌜ (n < 100) × (p + 17 ≤ length (now s)) × (Is (pos n) p ≡ closedBy (now s) 32 (numberAt (now s) at)) ⌝ }
     ensures { λ r. ⌜ (r .ok ≡ true → r ≡ threeOf (rowAt (now (s .entry)) at 3)) ⌝ }
 {
-    let y = short_in(s, p, 32, 8);
-    if y.count == 0 {
+    let y = short_in(s, p, 32);
+    let q = y.next;
+    if q == 0 {
         return no_three();
     }
-    let q = p + y.count + 1;
     if s[q] == 45 {
-        let z = short_in(s, q + 1, 10, 8);
-        return negative_last(s, at, n as u64, y.value, q, z.value, z.count);
+        let z = short_in(s, q + 1, 10);
+        return with_last(s, at, n as u64, y.value, q, minus(z.value), z.next);
     }
-    let z = short_in(s, q, 10, 8);
-    natural_last(s, at, n as u64, y.value, q, z.value, z.count)
+    let z = short_in(s, q, 10);
+    with_last(s, at, n as u64, y.value, q, plus(z.value), z.next)
 }
 
 // The three values of the line at an offset, with one space between.
@@ -392,20 +360,6 @@ fn any_three(s: &[u8], at: usize) -> Three
     }
 }
 
-// The same, at once where the first two are short ids and the third is a short number.
-pub fn triple_at(s: &[u8], at: usize) -> Three
-    ensures { λ r. ⌜ r ≡ threeOf (rowAt (now (s .entry)) at 3) ⌝ }
-{
-    if !has_left(s, at, 15) {
-        return any_three(s, at);
-    }
-    let row = ids_and_number(s, at);
-    if row.ok {
-        return row;
-    }
-    any_three(s, at)
-}
-
 // Whether a value is the id n.
 pub fn is_id(n: usize, x: i64) -> bool
     ensures { λ r. ⌜ r ≡ eqZ (pos n) x ⌝ }
@@ -413,7 +367,7 @@ pub fn is_id(n: usize, x: i64) -> bool
     if x < 0 {
         return false;
     }
-    n == x as u64 as usize
+    n == number::whole(x) as usize
 }
 
 // The three values of the line at an offset, where the first of them is the id n; otherwise no row.
@@ -430,52 +384,14 @@ fn any_id_three(s: &[u8], at: usize, n: usize) -> Three
     row
 }
 
-// The offset after the id n and a space at an offset, or 0: numbers have no leading zeros, so the bytes tell.
-fn past_id(s: &[u8], at: usize, n: usize) -> usize
-    requires { ⌜ (n < 100) × (at + 3 ≤ length (now s)) ⌝ }
-    ensures { λ r. ⌜ r ≤ at + 3 ⌝ }
-    ensures { λ r. ⌜ ((r ≡ 0 → ⊥) → Is (pos n) r ≡ closedBy (now (s .entry)) 32 (numberAt (now (s .entry)) at)) ⌝ }
-    ensures { λ r. ⌜ (r ≡ 0 → (q : ℕ) → Is (pos n) q ≡ closedBy (now (s .entry)) 32 (numberAt (now (s .entry)) at) → ⊥) ⌝ }
-{
-    if n < 10 {
-        if wide(s[at]) != 48 + n as u64 {
-            return 0;
-        }
-        if s[at + 1] != 32 {
-            return 0;
-        }
-        return at + 2;
-    }
-    if wide(s[at]) != 48 + n as u64 / 10 {
-        return 0;
-    }
-    if wide(s[at + 1]) != 48 + n as u64 % 10 {
-        return 0;
-    }
-    if s[at + 2] != 32 {
-        return 0;
-    }
-    at + 3
-}
-
-// Whether the id n has one or two digits and 20 bytes are left at an offset.
-fn is_near(s: &[u8], at: usize, n: usize) -> bool
-    ensures { λ r. ⌜ (r ≡ true → (n < 100) × (at + 20 ≤ length (now (s .entry)))) ⌝ }
-{
-    if 99 < n {
-        return false;
-    }
-    has_left(s, at, 20)
-}
-
 // The three values of the line at an offset, where the first of them is the id n; otherwise no row. At once where the others are short.
 pub fn id_triple_at(s: &[u8], at: usize, n: usize) -> Three
     ensures { λ r. ⌜ r ≡ threeOf (idRowAt n (now (s .entry)) at 3) ⌝ }
 {
-    if !is_near(s, at, n) {
+    if near_end(s.len(), n) <= at {
         return any_id_three(s, at, n);
     }
-    let p = past_id(s, at, n);
+    let p = past_head(s, at, n);
     if p == 0 {
         return no_three();
     }

@@ -2,20 +2,18 @@
 use Prim.Native.Nat.{ℕ, suc, _+_, _<_, _≤_}
 use native.Mathlib.Omega.{arith}
 use native.Mathlib.Numerals.{add-one}
-use mathlib.Core.Path.{_≡_, refl, sym, ap, subst, _∙_}
+use mathlib.Core.Path.{_≡_, refl, sym, ap, _∙_}
 use mathlib.Core.List.{List, map}
 use mathlib.Core.Bool.{true, false}
-use mathlib.Core.Option.{none}
 use lib.ListN.{length, drop, getD, set, length-drop}
 use lib.Seq.{sets, drop-drop, length-sets}
 use lib.IntN.{ℤ, pos}
-use Rattle.rules_number.specs.Order.{eqZ}
 use Rattle.rules_text.specs.declared.Row as source
 use Rattle.rules_text.specs.Numbers.{Row, lines, row}
 use Rattle.rules_text.specs.Tables.{cell, hasId, ifSuits, counting}
-use Rattle.rules_text.specs.Offsets.{asRow, rowAt, idRowAt, bytesOf}
+use Rattle.rules_text.specs.Offsets.{asRow, idRowAt, bytesOf}
 use Rattle.rules_text.proofs.LineLaws.{line, lines-few}
-use Rattle.rules_text.proofs.RowLaws.{row-in, in-range, held, not-held, id-no-row, id-other, id-same}
+use Rattle.rules_text.proofs.RowLaws.{row-in, in-range, held, not-held}
 use Rattle.rules_text.proofs.TableLaws.{Loop, room, ends, turns}
 use Rattle.rules_text.proofs.UsedLaws.{Used, used-none, used-next, used-count}
 
@@ -62,9 +60,9 @@ module _ (k : ℕ) (s : List ℕ) (at j : ℕ) where
     same-room = room k hasId up (cell j) count count cells (drop next s) _ _ _ (h .loop) ∙ length-sets before 0 (map (cell j) (rows k s at))
 
     -- the row that the turn has read
-    module _ (short : suc k ≤ 8) (r : source.Row) (e : r ≡ idRowAt count s next (suc k)) where
+    module _ (short : k ≤ 7) (r : source.Row) (e : r ≡ idRowAt count s next (k + 1)) where
       answers : r ≡ asRow (next + length (line (drop next s))) (ifSuits (hasId count) (row (suc k) (line (drop next s))))
-      answers = e ∙ row-in (ifSuits (hasId count)) s next (suc k) (in-range (suc k) (omega arith) short)
+      answers = e ∙ ap (idRowAt count s next) (add-one k) ∙ row-in (ifSuits (hasId count)) s next (suc k) (in-range (suc k) (omega arith) (omega arith))
 
       -- it is none of the table
       pub ended : r .ok ≡ false → Kept k s at j before count cells next
@@ -81,19 +79,3 @@ module _ (k : ℕ) (s : List ℕ) (at j : ℕ) where
           (ap (λ (n : ℕ). drop n s) (x .after) ∙ sym (drop-drop (length (line (drop next s))) next s)) in
           let below = t .below in
           record { again = record { loop = t .again; used = used-next (h .used) (x .after) }; fewer = t .fewer; few = omega (arith, lines-few (drop at s), length-drop at s) }
-
-    -- the line read as it stands, and then its id
-    module _ (short : suc k ≤ 8) where
-      abbrev pub plain : source.Row
-      plain = rowAt s next (suc k)
-
-      pub ended-none : plain .ok ≡ false → Kept k s at j before count cells next
-      ended-none q = ended short (asRow 0 none) (id-no-row count s next (suc k) plain refl q) refl
-
-      pub ended-other : eqZ (pos count) (getD (plain .v) 0 (pos 0)) ≡ false → Kept k s at j before count cells next
-      ended-other q = ended short (asRow 0 none) (id-other count s next (suc k) plain refl q) refl
-
-      pub turned-on : plain .ok ≡ true → eqZ (pos count) (getD (plain .v) 0 (pos 0)) ≡ true → j < 8 → (b : List ℤ) → b ≡ set cells count (getD (plain .v) j (pos 0))
-          → (after : ℕ) → after ≡ plain .next → More k s at j before count b next after
-      turned-on q same i b eb after ea =
-          subst (λ (n : ℕ). More k s at j before count b next n) (sym ea) (turned short plain (id-same count s next (suc k) plain refl same) q i b eb)

@@ -1,26 +1,22 @@
 -- Laws of the seller that leads, of the bits left, and of the order as it is stored. Assumes nothing.
 use Prim.Native.Nat.{ℕ, zero, suc, _+_, _-_, _*_, _≤_, _<_, _/_, _%_, _^_}
-use mathlib.Core.Path.{_≡_, refl, sym, ap, ap₂, _∙_}
-use mathlib.Core.List.{List, [], _∷_, _++_}
+use mathlib.Core.Path.{_≡_, refl, sym, ap, _∙_}
+use mathlib.Core.List.{[], _∷_}
 use mathlib.Core.Option.{Option, none, some}
 use mathlib.Core.Bool.{Bool, true, false, cond}
 use mathlib.Core.Logic.{⊎-elim}
-use borrow.Author.Tests.{lt-ltb, le-ltb, eqb-true, eqb-false, eq-eqb, ne-eqb}
+use borrow.Author.Tests.{lt-ltb, le-ltb, eqb-true, eqb-false, eq-eqb}
 use native.Mathlib.Omega.{arith}
-use native.Mathlib.Nat.{add-div-left, add-zero, add-suc}
+use native.Mathlib.Nat.{add-div-left, add-zero, add-suc, pow-suc}
 use native.Mathlib.Numerals.{add-one}
+use lib.Count.{trailingZeros, under}
 use lib.Dec.{ltb, eqb}
-use lib.ListN.{length, drop, take, getD, set, length-drop, length-take}
 use lib.Pow.{pow-pos, pow-mono, shr-shr}
-use lib.Seq.{take-all, take-suc, drop-cons}
-use Rattle.rules_number.specs.Over.{padded}
-use Rattle.rules_number.proofs.OverLaws.{le-or-lt, padded-at, padded-more}
-use Rattle.rules_path.specs.Verdicts.{bit, isNamed}
-use Rattle.rules_path.specs.declared.Verdict.{Verdict}
-use Rattle.rules_path.proofs.BitLaws.{add-bit-other, bit-past, bit-zero}
-use Rattle.rules_page.specs.Pages.{weightOf, sellersPrinted}
+use Rattle.rules_number.proofs.OverLaws.{le-or-lt}
+use Rattle.rules_path.specs.Verdicts.{bit}
+use Rattle.rules_path.proofs.BitLaws.{add-bit-other, bit-past}
 use Rattle.rules_page.specs.Weights.{without, later, leads, andThen, byWeight}
-use Rattle.rules_page.proofs.SellerOrder.{Leads, leads-are, mem-at, sellers-by-weight}
+use Rattle.rules_page.proofs.SellerOrder.{Leads, leads-are}
 use Rattle.verdict_page.specs.Orders.{isLeft, orSixteen}
 
 -- ---- the one that comes first of two
@@ -61,9 +57,6 @@ module _ (w : ℕ → ℕ) (left : ℕ → Bool) where
         go none h = refl
         go (some p) h = ap (λ (d : Bool). cond d (cond (ltb (w p) (w n)) n p) n) (lt-ltb p 16 (omega (arith, h .0, l))) ∙ either (ltb (w p) (w n)) p
 
-    pub next-out : left n ≡ false → orSixteen (leads w left n) ≡ orSixteen (leads w left (n + 1))
-    next-out e = sym (ap orSixteen (ap (leads w left) (add-one n) ∙ leads-out e))
-
   -- the number that answers it
   module _ (p : ℕ) (e : p ≡ orSixteen (leads w left 16)) where
     pub led : p < 16 → (leads w left 16 ≡ some p) × (left p ≡ true)
@@ -93,31 +86,53 @@ module _ (w : ℕ → ℕ) (left : ℕ → Bool) where
 pub bit-there : (q m : ℕ) → isLeft m q ≡ true → 2 ^ q ≤ m
 bit-there q m h = ⊎-elim (λ l. l) (λ l. absurd (omega (arith, eqb-true (bit q m) 1 h, bit-past q m l))) (le-or-lt (2 ^ q) m)
 
+-- the zeros below the lowest one
+half-bit : (n j : ℕ) → bit (suc j) n ≡ bit j (n / 2)
+half-bit n j = let e : suc j ≡ 1 + j = omega arith in ap (λ (k : ℕ). n / 2 ^ k % 2) e ∙ ap (λ (r : ℕ). r % 2) (sym (shr-shr n 1 j))
+
+pub low-zeros : (k n j : ℕ) → j < trailingZeros k n → bit j n ≡ 0
+unfolding trailingZeros
+low-zeros zero n j h = absurd (omega (arith, h))
+low-zeros (suc k) n j h = go (λ i l. low-zeros k (n / 2) i l) (n % 2) refl j h
+  where
+    go : ((i : ℕ) → i < trailingZeros k (n / 2) → bit i (n / 2) ≡ 0) → (d : ℕ) → n % 2 ≡ d → (j : ℕ) → j < under d (trailingZeros k (n / 2)) → bit j n ≡ 0
+    go higher zero e zero l = omega (arith, e)
+    go higher zero e (suc j) l = half-bit n j ∙ higher j (omega (arith, l))
+    go higher (suc d) e j l = absurd (omega (arith, l))
+
+pub low-one : (k n : ℕ) → 0 < n → n < 2 ^ k → (trailingZeros k n < k) × (bit (trailingZeros k n) n ≡ 1)
+unfolding trailingZeros
+low-one zero n p h = absurd (omega (arith, p, h))
+low-one (suc k) n p h = go (λ q. low-one k (n / 2) q (omega (arith, h, pow-suc 2 k))) (n % 2) refl
+  where
+    go : (0 < n / 2 → (trailingZeros k (n / 2) < k) × (bit (trailingZeros k (n / 2)) (n / 2) ≡ 1)) → (d : ℕ) → n % 2 ≡ d
+        → (under d (trailingZeros k (n / 2)) < suc k) × (bit (under d (trailingZeros k (n / 2))) n ≡ 1)
+    go higher zero e = let x = higher (omega (arith, e, p)) in (omega (arith, x .0), half-bit n (trailingZeros k (n / 2)) ∙ x .1)
+    go higher (suc d) e = (omega arith, omega (arith, e))
+
 -- the rest of the bits, from p on
 module _ (w : ℕ → ℕ) (left p rest : ℕ) (e : rest ≡ left / 2 ^ p) where
-  pub rest-in : rest % 2 ≡ 1 → isLeft left p ≡ true
-  rest-in h = eq-eqb (bit p left) 1 (ap (λ (z : ℕ). z % 2) (sym e) ∙ h)
+  rest-bit : (k : ℕ) → bit (p + k) left ≡ bit k rest
+  rest-bit k = ap (λ (r : ℕ). r % 2) (sym (shr-shr left p k)) ∙ ap (bit k) (sym e)
 
-  pub rest-out : (rest % 2 ≡ 1 → ⊥) → isLeft left p ≡ false
-  rest-out h = ne-eqb (bit p left) 1 (λ z. h (ap (λ (r : ℕ). r % 2) e ∙ z))
+  -- where the bits up to k are zeros, the one that leads stays
+  pub rest-skip : (k : ℕ) → ((j : ℕ) → j < k → bit j rest ≡ 0) → leads w (isLeft left) (p + k) ≡ leads w (isLeft left) p
+  rest-skip zero z = ap (leads w (isLeft left)) (add-zero p)
+  rest-skip (suc k) z =
+      ap (leads w (isLeft left)) (add-suc p k) ∙ leads-out w (isLeft left) (p + k) (ap (λ (b : ℕ). eqb b 1) (rest-bit k ∙ z k (omega arith)))
+      ∙ rest-skip k (λ j l. z j (omega (arith, l)))
 
-  pub rest-half : rest / 2 ≡ left / 2 ^ (p + 1)
-  rest-half = ap (λ (r : ℕ). r / 2) e ∙ shr-shr left p 1
+  -- and up to the last
+  pub rest-none : p ≤ 16 → ((j : ℕ) → j < 16 - p → bit j rest ≡ 0) → orSixteen (leads w (isLeft left) p) ≡ orSixteen (leads w (isLeft left) 16)
+  rest-none l z =
+      let whole : 16 ≡ p + (16 - p) = omega (arith, l) in
+      sym (ap orSixteen (ap (leads w (isLeft left)) whole ∙ rest-skip (16 - p) z))
 
-  -- none is left, so the one that leads stays
-  pub rest-none : rest ≡ 0 → p ≤ 16 → orSixteen (leads w (isLeft left) p) ≡ orSixteen (leads w (isLeft left) 16)
-  rest-none z l = sym (ap orSixteen (ap (leads w (isLeft left)) whole ∙ stays (16 - p)))
-    where
-      whole : 16 ≡ p + (16 - p)
-      whole = omega (arith, l)
+  pub rest-in : (k : ℕ) → bit k rest ≡ 1 → isLeft left (p + k) ≡ true
+  rest-in k h = eq-eqb (bit (p + k) left) 1 (rest-bit k ∙ h)
 
-      -- bit p + k is bit k of the rest
-      none-there : (k : ℕ) → bit (p + k) left ≡ 0
-      none-there k = ap (λ (r : ℕ). r % 2) (sym (shr-shr left p k)) ∙ ap (bit k) (sym e ∙ z) ∙ bit-zero k
-
-      stays : (k : ℕ) → leads w (isLeft left) (p + k) ≡ leads w (isLeft left) p
-      stays zero = ap (leads w (isLeft left)) (add-zero p)
-      stays (suc k) = ap (leads w (isLeft left)) (add-suc p k) ∙ leads-out w (isLeft left) (p + k) (ap (λ (b : ℕ). eqb b 1) (none-there k)) ∙ stays k
+  pub rest-after : (k : ℕ) → rest / 2 ^ k / 2 ≡ left / 2 ^ (p + k + 1)
+  rest-after k = ap (λ (r : ℕ). r / 2 ^ k / 2) e ∙ ap (λ (r : ℕ). r / 2) (shr-shr left p k) ∙ shr-shr left (p + k) 1
 
 -- taking its bit away strikes a portfolio out and leaves the others
 pub struck-out : (q m : ℕ) → isLeft m q ≡ true → isLeft (m - 2 ^ q) ≡ without q (isLeft m)

@@ -13,6 +13,7 @@ use Rattle.rules_path.specs.declared.Finding.{Finding}
 use Rattle.rules_path.specs.declared.Finding.the-variants.{Competitive, NonCompetitive, NotBinding}
 use Rattle.rules_text.specs.Numbers.{Row}
 use Rattle.rules_text.specs.Printing.{groupText, lineText}
+use Rattle.rules_path.proofs.BitLaws.{bit-zero}
 use Rattle.rules_page.specs.Pages.{printable, unlessNotBinding, shown, weightOf, sellerRow, sellersNamed, sellerRows}
 use Rattle.rules_page.specs.Weights.{leads, byWeight}
 use Rattle.verdict_page.specs.Orders.{weightIn, isLeft, orSixteen}
@@ -42,7 +43,7 @@ leftRows w left n = map (sellerIn w) (byWeight (16 - n) (weightIn w) (isLeft lef
 
 none-named : (w : ℕ → ℕ) (named : ℕ) → named ≡ 0 → byWeight 16 w (isLeft named) ≡ []
 none-named w named e =
-    order-none w (isLeft named) 16 (sym (none-led w (isLeft named)) ∙ rest-none w named 0 0 (omega arith) refl (omega arith)) (omega arith) 16
+    order-none w (isLeft named) 16 (sym (none-led w (isLeft named)) ∙ rest-none w named 0 0 (omega arith) (omega arith) (λ j h. bit-zero j)) (omega arith) 16
 
 all-left : (f : Finding) (d k n : ℕ) (w : List ℕ)
     → sellersNamed (unlessNotBinding f (record { finding = f; demand = d; left = k; named = n % 4294967296; withheld = w })) ≡ leftRows w (shownWhole f n % 4294967296) 0

@@ -1,18 +1,18 @@
 // The verdicts of an accepted interval and the sellers that they name (paper 01, Text), printed from lent cells into a lent buffer at an offset. The contracts
 // cite the definitions of rules_page and rules_state.
+use page::printable;
 use rules_interval::Interval;
 use rules_path::Market;
 use rules_text::Printed;
 ghost use mathlib.Core.Path.{_≡_};
 ghost use mathlib.Core.Bool.{cond};
 ghost use mathlib.Core.List.{[], _∷_};
-ghost use Prim.Native.Nat.{_+_, _*_, _%_, _<_, _≤_};
+ghost use Prim.Native.Nat.{ℕ, _+_, _*_, _%_, _<_, _≤_};
 ghost use lib.Dec.{ltb};
 ghost use lib.IntN.{pos};
 ghost use lib.ListN.{length, take};
-ghost use lib.Seq.{sets};
 ghost use Rattle.rules_number.specs.Order.{natOf};
-ghost use Rattle.rules_path.specs.Verdicts.{findingNumber};
+ghost use Rattle.rules_path.specs.Verdicts.{findingNumber, bit};
 ghost use Rattle.rules_text.specs.Printing.{lineText, groupText};
 ghost use Rattle.rules_page.specs.Pages.{verdictRows, sellerRows, verdictTable, sellerTable, verdictText, Put, verdictRoom, putWithin, putWithinTo, printable as printableOf};
 ghost use Rattle.rules_page.specs.Weights.{leads};
@@ -22,16 +22,6 @@ ghost use Rattle.verdict_page.specs.Shown.{shownWhole, withheldIn};
 
 // Verdicts and the sellers named are put where at least this many bytes are left.
 pub const PAGE_ROOM: usize = 49_152;
-
-// A quantity as it is printed.
-fn printable(n: u64) -> i64
-    ensures { λ r. ⌜ r ≡ pos (printableOf n) ⌝ }
-{
-    if n < 9_223_372_036_854_775_807 {
-        return n as i64;
-    }
-    9_223_372_036_854_775_807
-}
 
 // The number of a finding: any other than 0 and 1 is not binding.
 fn finding_of(finding: i64) -> i64
@@ -64,17 +54,6 @@ fn named_by(finding: i64, names: i64) -> u32
     ensures { λ r. ⌜ r ≡ shownWhole (findingBy finding) (natOf names) % 4294967296 ⌝ }
 {
     (number::whole(shown_cell(finding, names)) % 4_294_967_296) as u32
-}
-
-// Puts a names line at an offset, and answers the offset after it.
-fn put_names(out: &mut [u8], at: usize, names: &[u8]) -> usize
-    requires { ⌜ at + length (now names) ≤ length (now out) ⌝ }
-    ensures { λ r. ⌜ (now (out .exit) ≡ sets (now (out .entry)) at (now (names .entry))) × (r ≡ at + length (now (names .entry))) ⌝ }
-{
-    match print::print_names(out, at, names) {
-        Printed::To(next) => next,
-        Printed::Full => at,
-    }
 }
 
 // Puts the line of the first k values at an offset, and answers the offset after it.
@@ -159,6 +138,15 @@ fn first_of(verdicts: &[i64; rules_state::VERDICT_ROOM], c: usize, best: usize, 
     p
 }
 
+// How many bits stand below the lowest one.
+fn zeros_below(bits: u32) -> usize
+    requires { ⌜ 0 < bits ⌝ }
+    ensures zeros { λ r. ⌜ ((j : ℕ) → j < r → bit j bits ≡ 0) ⌝ }
+    ensures one { λ r. ⌜ (r < 32) × (bit r bits ≡ 1) ⌝ }
+{
+    u32::trailing_zeros(bits) as usize
+}
+
 // The seller of constraint c to print first of those left; 16 where none is.
 fn next_seller(verdicts: &[i64; rules_state::VERDICT_ROOM], c: usize, left: u32) -> usize
     requires { ⌜ c < 32 ⌝ }
@@ -171,10 +159,13 @@ fn next_seller(verdicts: &[i64; rules_state::VERDICT_ROOM], c: usize, left: u32)
         if rest == 0 {
             return best;
         }
-        if rest % 2 == 1 {
-            best = first_of(verdicts, c, best, p);
+        let skip = zeros_below(rest);
+        p += skip;
+        if p >= Market::MAX_PORTFOLIOS {
+            return best;
         }
-        rest /= 2;
+        best = first_of(verdicts, c, best, p);
+        rest = (rest >> skip) / 2;
         p += 1;
     }
     best
@@ -267,8 +258,8 @@ pub fn print_verdicts(
     if !number::has_room(out.len(), at, PAGE_ROOM) {
         return Printed::Full;
     }
-    let a = put_names(out, at, b"interval constraint verdict demand left\n");
+    let a = print::put_names(out, at, b"interval constraint verdict demand left\n");
     let b = put_verdicts(out, a, i, constraints, verdicts);
-    let c = put_names(out, b, b"interval constraint portfolio withheld\n");
+    let c = print::put_names(out, b, b"interval constraint portfolio withheld\n");
     Printed::To(put_sellers(out, c, i, constraints, verdicts))
 }

@@ -6,15 +6,6 @@ use Rattle.rules_number.proofs.Kit.{came}
 use Rattle.cells.proofs.put_whole.Statement.{statement}
 use Rattle.cells.proofs.put_whole.Tie as tie
 
-cell-of-requires : tie.Need-cell-of-requires
-cell-of-requires c κs = search needs
-
-put-requires : tie.Need-put-requires
-put-requires c κs = search needs
-
-same-length : tie.Need-same-length
-same-length c = search needs
-
 returns : tie.Need-returns
 returns c =
     let p = c .before in
@@ -23,4 +14,5 @@ returns c =
     p .put .ensures ∙ ap (set (a .cells .now) (a .i)) (came (e .result) (e .ok) ∙ e .ensures)
 
 pub put-whole-spec : {M : Type 1} → statement M
-put-whole-spec = tie.close (tie.spec cell-of-requires put-requires same-length returns)
+put-whole-spec =
+    tie.close (tie.spec (λ c κs. search needs) (λ c κs. search needs) (λ c. search needs) returns)

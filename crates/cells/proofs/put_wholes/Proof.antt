@@ -22,24 +22,6 @@ returns c = let a = c .before .before .args in sym (sets-out (a .cells .now) (a 
 loop-holds : tie.Need-loop-holds Inv-loop μ-loop
 loop-holds c = let a = c .before .before .args in (omega arith, refl, begins cellOf (a .from .now) (a .cells .now) (a .at))
 
-add-put-whole : tie.Need-add-put-whole Inv-loop μ-loop
-add-put-whole c = search needs
-
-mul-put-whole : tie.Need-mul-put-whole Inv-loop μ-loop
-mul-put-whole c = search needs
-
-shared-slice-read-put-whole : tie.Need-shared-slice-read-put-whole Inv-loop μ-loop
-shared-slice-read-put-whole c = search needs
-
-put-whole-requires : tie.Need-put-whole-requires Inv-loop μ-loop
-put-whole-requires c κs = search needs
-
-add-i : tie.Need-add-i Inv-loop μ-loop
-add-i c = search needs
-
-loop-less : tie.Need-loop-less Inv-loop μ-loop
-loop-less c = search needs
-
 loop-again : tie.Need-loop-again Inv-loop μ-loop
 loop-again c =
     let p = c .before in
@@ -62,18 +44,5 @@ returns-2 c =
 
 pub put-wholes-spec : {M : Type 1} → statement M
 put-wholes-spec =
-    tie.close
-    (tie.spec
-    Inv-loop
-    μ-loop
-    returns
-    loop-holds
-    add-put-whole
-    mul-put-whole
-    shared-slice-read-put-whole
-    put-whole-requires
-    add-i
-    loop-less
-    loop-again
-    same-length
-    returns-2)
+    tie.close (tie.spec Inv-loop μ-loop returns loop-holds (λ c. search needs) (λ c. search needs) (λ c. search needs) (λ c κs. search needs)
+    (λ c. search needs) (λ c. search needs) loop-again same-length returns-2)

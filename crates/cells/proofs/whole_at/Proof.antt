@@ -6,14 +6,8 @@ use Rattle.rules_number.proofs.Kit.{came}
 use Rattle.cells.proofs.whole_at.Statement.{statement}
 use Rattle.cells.proofs.whole_at.Tie as tie
 
-cell-at-requires : tie.Need-cell-at-requires
-cell-at-requires c κs = search needs
-
-whole-requires : tie.Need-whole-requires
-whole-requires c κs = search needs
-
 returns : tie.Need-returns
 returns c = let e = c .before .cell-at in c .whole .ensures ∙ ap natOf (came (e .result) (e .ok) ∙ e .ensures)
 
 pub whole-at-spec : {M : Type 1} → statement M
-whole-at-spec = tie.close (tie.spec cell-at-requires whole-requires returns)
+whole-at-spec = tie.close (tie.spec (λ c κs. search needs) (λ c κs. search needs) returns)

@@ -33,31 +33,19 @@ msc-in c = sym (msc-is (c .before)) ∙ not-false _ (c .if2 .left)
 soc-in : (c : tie.Else3) → inRange (pos 0) (pos 1000000) (c .before .before .before .before .before .before .before .before .before .args .costs .soc) ≡ true
 soc-in c = sym (soc-is (c .before)) ∙ not-false _ (c .if3 .left)
 
-within-requires : tie.Need-within-requires
-within-requires c κs = search needs
-
 returns : tie.Need-returns
 unfolding chargesInRange
 returns c = simp (sym (om-is (c .before)) ∙ not-true _ (c .if1 .taken))
 
-within-requires-2 : tie.Need-within-requires-2
-within-requires-2 c κs = search needs
-
 returns-2 : tie.Need-returns-2
 unfolding chargesInRange
 returns-2 c = simp (om-in (c .before .before .before), sym (msc-is (c .before)) ∙ not-true _ (c .if2 .taken))
-
-within-requires-3 : tie.Need-within-requires-3
-within-requires-3 c κs = search needs
 
 returns-3 : tie.Need-returns-3
 unfolding chargesInRange
 returns-3 c =
     let e = c .before .before .before in
     simp (om-in (e .before .before .before), msc-in e, sym (soc-is (c .before)) ∙ not-true _ (c .if3 .taken))
-
-within-requires-4 : tie.Need-within-requires-4
-within-requires-4 c κs = search needs
 
 returns-4 : tie.Need-returns-4
 unfolding chargesInRange
@@ -67,13 +55,5 @@ returns-4 c =
 
 pub charges-good-spec : {M : Type 1} → statement M
 charges-good-spec =
-    tie.close
-    (tie.spec
-    within-requires
-    returns
-    within-requires-2
-    returns-2
-    within-requires-3
-    returns-3
-    within-requires-4
+    tie.close (tie.spec (λ c κs. search needs) returns (λ c κs. search needs) returns-2 (λ c κs. search needs) returns-3 (λ c κs. search needs)
     returns-4)

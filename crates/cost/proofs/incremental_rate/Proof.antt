@@ -49,20 +49,11 @@ sub-n c = fits (n (c .before .before .before .before)) tt
 sub-ceil-by : tie.Need-sub-ceil-by
 sub-ceil-by c = fits (w (c .before .before .before .before .before .before .before .before)) tt
 
-ceil-by-requires : tie.Need-ceil-by-requires
-ceil-by-requires c κs = search needs
-
 mul-if1 : tie.Need-mul-if1
 mul-if1 c = let s = c .before .before .before .before .before .before .before .before .before in fits (const 5 ⊗ e s) tt
 
 mul-if1-2 : tie.Need-mul-if1-2
 mul-if1-2 c = let s = c .before .before .before .before .before .before .before .before .before in fits (const 4 ⊗ top s) tt
-
-max-requires : tie.Need-max-requires
-max-requires c κs = search needs
-
-min-requires : tie.Need-min-requires
-min-requires c κs = search needs
 
 -- R before the limit
 unlimited-is : (c : tie.After-ceil-by)
@@ -95,16 +86,5 @@ returns-2 c =
 
 pub incremental-rate-spec : {M : Type 1} → statement M
 incremental-rate-spec =
-    tie.close
-    (tie.spec
-    mul-n
-    mul-n-2
-    sub-n
-    sub-ceil-by
-    ceil-by-requires
-    mul-if1
-    mul-if1-2
-    max-requires
-    min-requires
-    returns
+    tie.close (tie.spec mul-n mul-n-2 sub-n sub-ceil-by (λ c κs. search needs) mul-if1 mul-if1-2 (λ c κs. search needs) (λ c κs. search needs) returns
     returns-2)

@@ -19,9 +19,6 @@ whole-is c = c .whole .ensures ∙ ap natOf (came (c .before .args .pmax) (c .be
 top : (c : tie.After-whole) → c .whole .result ≤ 1000000
 top c = omega (arith, whole-is c, nat-is 1000000 (c .before .args .pmax) (c .before .pre) .1)
 
-whole-requires : tie.Need-whole-requires
-whole-requires c κs = search needs
-
 mul-result : tie.Need-mul-result
 mul-result c = omega (arith, top c)
 
@@ -32,4 +29,4 @@ returns : tie.Need-returns
 returns c = toZ-pos w64 {n = 4 * c .whole .result / 5} (omega (arith, top c)) ∙ ap (λ (n : ℕ). pos (4 * n / 5)) (whole-is c)
 
 pub mark-of-spec : {M : Type 1} → statement M
-mark-of-spec = tie.close (tie.spec whole-requires mul-result cast-result returns)
+mark-of-spec = tie.close (tie.spec (λ c κs. search needs) mul-result cast-result returns)

@@ -30,31 +30,19 @@ rate-in c = sym (rate-is (c .before)) ∙ not-false _ (c .if2 .left)
 allowance-in : (c : tie.Else3) → inRange (pos 0) (pos 10000000) (c .before .before .before .before .before .before .before .before .before .args .costs .allowance) ≡ true
 allowance-in c = sym (allowance-is (c .before)) ∙ not-false _ (c .if3 .left)
 
-within-requires : tie.Need-within-requires
-within-requires c κs = search needs
-
 returns : tie.Need-returns
 unfolding pricesInRange
 returns c = simp (sym (gas-is (c .before)) ∙ not-true _ (c .if1 .taken))
 
-within-requires-2 : tie.Need-within-requires-2
-within-requires-2 c κs = search needs
-
 returns-2 : tie.Need-returns-2
 unfolding pricesInRange
 returns-2 c = simp (gas-in (c .before .before .before), sym (rate-is (c .before)) ∙ not-true _ (c .if2 .taken))
-
-within-requires-3 : tie.Need-within-requires-3
-within-requires-3 c κs = search needs
 
 returns-3 : tie.Need-returns-3
 unfolding pricesInRange
 returns-3 c =
     let e = c .before .before .before in
     simp (gas-in (e .before .before .before), rate-in e, sym (allowance-is (c .before)) ∙ not-true _ (c .if3 .taken))
-
-charges-good-requires : tie.Need-charges-good-requires
-charges-good-requires c κs = search needs
 
 returns-4 : tie.Need-returns-4
 unfolding pricesInRange
@@ -64,13 +52,5 @@ returns-4 c =
 
 pub prices-good-spec : {M : Type 1} → statement M
 prices-good-spec =
-    tie.close
-    (tie.spec
-    within-requires
-    returns
-    within-requires-2
-    returns-2
-    within-requires-3
-    returns-3
-    charges-good-requires
+    tie.close (tie.spec (λ c κs. search needs) returns (λ c κs. search needs) returns-2 (λ c κs. search needs) returns-3 (λ c κs. search needs)
     returns-4)

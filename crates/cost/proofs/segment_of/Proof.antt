@@ -4,9 +4,6 @@ use borrow.Author.Tests.{le-leb, lt-leb}
 use Rattle.cost.proofs.segment_of.Statement.{statement}
 use Rattle.cost.proofs.segment_of.Tie as tie
 
-sub-result : tie.Need-sub-result
-sub-result c = search needs
-
 returns : tie.Need-returns
 returns c = rw (le-leb _ _ (c .if1 .taken))
 
@@ -14,4 +11,4 @@ returns-2 : tie.Need-returns-2
 returns-2 c = rw (lt-leb _ _ (c .if1 .left))
 
 pub segment-of-spec : {M : Type 1} → statement M
-segment-of-spec = tie.close (tie.spec sub-result returns returns-2)
+segment-of-spec = tie.close (tie.spec (λ c. search needs) returns returns-2)

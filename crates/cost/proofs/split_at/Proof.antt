@@ -45,9 +45,6 @@ mul-to c = omega (arith, count-in (c .before .before .before))
 element-copy-out-to : tie.Need-element-copy-out-to Inv-loop μ-loop
 element-copy-out-to c = omega (arith, count-in (c .before .before .before))
 
-lies-inside-requires : tie.Need-lies-inside-requires Inv-loop μ-loop
-lies-inside-requires c κs = search needs
-
 -- the test is that of the segment reached
 test-is : (c : tie.After-lies-inside Inv-loop μ-loop)
     → c .lies-inside .result ≡ isSplit (c .before .before .before .before .before .before .before .args .t1) (c .before .before .before .before .before .before .loop .i)
@@ -71,9 +68,6 @@ returns c =
 add-i : tie.Need-add-i Inv-loop μ-loop
 add-i c = omega (arith, count-in (c .before .before .before .before .before .before .before .before))
 
-loop-less : tie.Need-loop-less Inv-loop μ-loop
-loop-less c = omega arith
-
 loop-again : tie.Need-loop-again Inv-loop μ-loop
 loop-again c =
     let l = c .before .before .before .before .before .before .before in
@@ -89,20 +83,5 @@ returns-2 c =
 
 pub split-at-spec : {M : Type 1} → statement M
 split-at-spec =
-    tie.close
-    (tie.spec
-    Inv-loop
-    μ-loop
-    sub-n
-    loop-holds
-    mul-from
-    element-copy-out-from
-    add-to
-    mul-to
-    element-copy-out-to
-    lies-inside-requires
-    returns
-    add-i
-    loop-less
-    loop-again
-    returns-2)
+    tie.close (tie.spec Inv-loop μ-loop sub-n loop-holds mul-from element-copy-out-from add-to mul-to element-copy-out-to (λ c κs. search needs)
+    returns add-i (λ c. omega arith) loop-again returns-2)

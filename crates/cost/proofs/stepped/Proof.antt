@@ -5,32 +5,41 @@ use Prim.Native.Nat.{ℕ, suc, _+_, _-_, _*_, _/_, _≤_, _<_}
 use native.Mathlib.Numerals.{add-one}
 use native.Mathlib.Omega.{arith}
 use lib.Dec.{leb, ltb, eqb}
-use lib.IntN.{ℤ, pos, _-ℤ_}
+use lib.IntN.{ℤ, pos, negℤ, _-ℤ_}
+use lib.ListN.{set, replicate}
+use mathlib.Core.List.{List}
+use mir.Facts.{toZ-pos}
+use Rattle.rules_state.specs.Layout.{curveRoom}
+use Rattle.rules_state.specs.States.{cellOf}
+use Rattle.cost.proofs.LiftLaws.{nat-size}
 use mir.Syntax.{w64}
 use mir.Val.{toZ}
 use borrow.Author.Needs.{needs}
 use borrow.Author.Tests.{not-true, not-false}
 use Rattle.rules_number.specs.Order.{maxZ, natOf}
-use Rattle.rules_number.specs.Over.{listed, padded}
 use Rattle.rules_number.proofs.Kit.{rd, came, negsuc-fits}
 use Rattle.rules_number.proofs.Meant.{Meant, fits, kept, bits, _⊖_, held}
 use Rattle.rules_number.proofs.OrderLaws.{max-least}
 use Rattle.rules_curve.specs.Curves.{mostSteps}
-use Rattle.rules_cost.specs.Costs.{mostPoints, pointAt, mwAt, pmax, segmentCount, mark, splitAt, stepCount, segmentAt, endAt, widthAt, incrementalRate, rateAt, withAdder, mwInRange, rateInRange}
+use Rattle.rules_curve.specs.declared.Outcome.the-variants.{Accepted}
+use Rattle.rules_cost.specs.Costs.{mostPoints, pointAt, mwAt, pmax, segmentCount, mark, splitAt, stepCount, segmentAt, endAt, widthAt, incrementalRate, rateAt, withAdder, mwInRange, rateInRange, costCurve}
 use Rattle.rules_cost.proofs.RangeLaws.{mw-size, few, mw-in, heat-in}
 use Rattle.rules_cost.proofs.SplitLaws.{segment-among}
-use Rattle.rules_cost.proofs.EdgeLaws.{eleven-suffice, wide-step, width-above}
+use Rattle.rules_cost.proofs.EdgeLaws.{eleven-suffice, some-step, wide-step, width-above}
 use Rattle.rules_cost.proofs.CostLaws.{largest-in}
-use Rattle.cost.proofs.StepLaws.{Stepped, before-steps, next-step, rate-fails, rates-good, curve-is}
+use Rattle.cost.proofs.StepLaws.{Stepped, before-steps, next-step, rate-fails, rates-good, cells-are}
+use Rattle.cost.proofs.StepLaws as law
+use Rattle.cost.proofs.CellLaws.{cell-in}
 use Rattle.rules_cost.specs.declared.Costs.{Costs}
+use Rattle.cost.specs.declared.DefaultCells.{DefaultCells}
 use Rattle.cost.proofs.stepped.Statement.{statement}
 use Rattle.cost.proofs.stepped.Tie as tie
 
 abbrev Inv-loop : tie.InvT-loop
-Inv-loop costs segments top k split count first edge₀ largest₀ price₀ steps₀ t₀ edge largest price steps t = Stepped costs (toZ w64 edge) (toZ w64 largest) (toZ w64 price) steps t
+Inv-loop costs segments top k split count first edge₀ cells₀ largest₀ price₀ t₀ edge cells largest price t = Stepped costs (toZ w64 edge) (toZ w64 largest) (toZ w64 price) cells t
 
 abbrev μ-loop : tie.MeasureT-loop
-μ-loop costs segments top k split count first edge₀ largest₀ price₀ steps₀ t₀ edge largest price steps t = count - t
+μ-loop costs segments top k split count first edge₀ cells₀ largest₀ price₀ t₀ edge cells largest price t = count - t
 
 -- ---- over plain values
 end-by : (t s s' : ℕ) (k k' m m' : ℤ) → s ≡ s' → k ≡ k' → m ≡ m' → cond (eqb t s) k m ≡ cond (eqb t s') k' m'
@@ -86,9 +95,6 @@ split-at-requires c κs = (c .before .before .before .pre .0, mark-read c)
 steps-of-requires : tie.Need-steps-of-requires Inv-loop μ-loop
 steps-of-requires c κs = omega (arith, count-in (c .before .before .before .before))
 
-element-copy-out-first : tie.Need-element-copy-out-first Inv-loop μ-loop
-element-copy-out-first c = search needs
-
 sub-largest : tie.Need-sub-largest Inv-loop μ-loop
 sub-largest c = negsuc-fits 99999 tt
 
@@ -96,9 +102,18 @@ sub-largest c = negsuc-fits 99999 tt
 first-read : (s : tie.Start Inv-loop μ-loop) → rd (mwAt (s .args .t1) 0) ≡ mwAt (s .args .t1) 0
 first-read s = held (mw-size (mwAt (s .args .t1) 0) (mw-in (s .args .t1) (s .pre .1 .0) 0 (omega (arith, count-in s)))) tt .same
 
+cast-cells : tie.Need-cast-cells Inv-loop μ-loop
+cast-cells c = let n = c .before .before in record { sfits = omega (arith, count-is n, eleven-suffice (n .before .before .before .before .before .args .t1) (count-in (n .before .before .before .before .before) .1)) }
+
 loop-holds : tie.Need-loop-holds Inv-loop μ-loop
-unfolding padded listed
-loop-holds c = let s = c .before .before .before .before .before .before .before in before-steps (s .args .t1) _ (first-read s)
+loop-holds c =
+    let n = c .before .before in
+    let s = n .before .before .before .before .before in
+    let d = s .args .t1 in
+    let e : toZ w64 (n .steps-of .result) ≡ cellOf (stepCount d) =
+    toZ-pos w64 {n = n .steps-of .result} (omega (arith, count-is n, eleven-suffice d (count-in s .1))) ∙ ap pos (omega (arith, count-is n, eleven-suffice d (count-in s .1))) in
+    let f = first-read s ∙ sym (cell-in (mwAt d 0) (mw-in d (s .pre .1 .0) 0 (omega (arith, count-in s)))) in
+    subst (λ (l : List ℤ). Stepped d (rd (mwAt d 0)) (negℤ (pos 100000)) (negℤ (pos 1000000000)) l 0) (sym (ap₂ (λ (x y : ℤ). set (set (replicate curveRoom (pos 0)) 0 x) 1 y) e f)) (before-steps d (rd (mwAt d 0)) (first-read s))
 
 -- ---- in the loop: the costs, the step's number and its segment
 abbrev start : tie.In-loop Inv-loop μ-loop → tie.Start Inv-loop μ-loop
@@ -183,9 +198,6 @@ largest-is c =
     came (c .max .result) (c .max .ok) ∙ c .max .ensures
     ∙ ap (maxZ (toZ w64 (c .before .before .before .before .before .before .before .before .before .before .before .loop .largest))) (rate-read (c .before .before .before))
 
-segment-of-requires : tie.Need-segment-of-requires Inv-loop μ-loop
-segment-of-requires c κs = search needs
-
 mul-from : tie.Need-mul-from Inv-loop μ-loop
 mul-from c = omega (arith, count-in (start (c .before)), near c)
 
@@ -200,9 +212,6 @@ mul-to c = omega (arith, count-in (start (c .before .before)), near (c .before))
 
 element-copy-out-to : tie.Need-element-copy-out-to Inv-loop μ-loop
 element-copy-out-to c = omega (arith, count-in (start (c .before .before)), near (c .before))
-
-end-of-requires : tie.Need-end-of-requires Inv-loop μ-loop
-end-of-requires c κs = search needs
 
 incremental-rate-requires : tie.Need-incremental-rate-requires Inv-loop μ-loop
 incremental-rate-requires c κs =
@@ -226,12 +235,6 @@ incremental-rate-requires c κs =
 sub-within : tie.Need-sub-within Inv-loop μ-loop
 sub-within c = negsuc-fits 99999 tt
 
-within-requires : tie.Need-within-requires Inv-loop μ-loop
-within-requires c κs = search needs
-
-refused-requires : tie.Need-refused-requires Inv-loop μ-loop
-refused-requires c κs = search needs
-
 returns : tie.Need-returns Inv-loop μ-loop
 returns c =
     let w = c .before .before in
@@ -240,9 +243,6 @@ returns c =
     let out = sym (ap rateInRange (rate-is (w .before))) ∙ sym (range-is w) ∙ not-true _ (c .before .if1 .taken) in
     let bad = rate-fails (costs k) (s .pre .0) (s .pre .1 .0) (s .pre .1 .1 .1) (at k) (k .before .loop .inv) (more k) out in
     rw (bad, c .refused .ensures) (refl, refl)
-
-max-requires : tie.Need-max-requires Inv-loop μ-loop
-max-requires c κs = search needs
 
 sub-step-price : tie.Need-sub-step-price Inv-loop μ-loop
 sub-step-price c = fits (wide (c .before .before .before .before .before)) tt
@@ -260,56 +260,64 @@ step-price-requires c κs =
           subst (λ (z : ℤ). rateInRange z ≡ true) (sym (largest-is c)) (max-least (λ (z : ℤ). rateInRange z ≡ true) _ _ M-in (rate-in (c .before))),
           subst (λ (z : ℤ). rateInRange z ≡ true) (sym (rate-read (c .before .before .before))) (rate-in (c .before)),
         ),
-        subst (λ (n : ℕ). 0 < n) (sym (width-is e)) (width-above (costs k) (s .pre .1 .0) (at k) (more k)),
+        (subst (λ (n : ℕ). 0 < n) (sym (width-is e)) (width-above (costs k) (s .pre .1 .0) (at k) (more k)), subst (λ (z : ℤ). natOf z ≤ 2000000) (sym (kept (wide e) tt .same)) (nat-size (wide e .means) (wide e .within))),
       ),
     )
 
-max-requires-2 : tie.Need-max-requires-2 Inv-loop μ-loop
-max-requires-2 c κs = search needs
-
-whole-requires : tie.Need-whole-requires Inv-loop μ-loop
-whole-requires c κs = search needs
-
 -- the step stored has its place
-placed : (c : tie.After-whole Inv-loop μ-loop) → at (c .before .before .before .before .before .before .before .before .before .before .before .before .before) < mostSteps
+placed : (c : tie.After-max2 Inv-loop μ-loop) → at (c .before .before .before .before .before .before .before .before .before .before .before .before) < mostSteps
 placed c =
-    let k = c .before .before .before .before .before .before .before .before .before .before .before .before .before in
+    let k = c .before .before .before .before .before .before .before .before .before .before .before .before in
     omega (arith, more k, eleven-suffice (costs k) (count-in (start k) .1))
 
-mul-steps : tie.Need-mul-steps Inv-loop μ-loop
-mul-steps c = omega (arith, placed c)
+add-cells : tie.Need-add-cells Inv-loop μ-loop
+add-cells c = omega (arith, placed c)
 
-array-set-from-steps : tie.Need-array-set-from-steps Inv-loop μ-loop
-array-set-from-steps c = omega (arith, placed c)
+mul-cells : tie.Need-mul-cells Inv-loop μ-loop
+mul-cells c = omega (arith, placed c)
+
+array-set-from-cells-3 : tie.Need-array-set-from-cells-3 Inv-loop μ-loop
+array-set-from-cells-3 c = omega (arith, placed c)
+
+add-cells-3 : tie.Need-add-cells-3 Inv-loop μ-loop
+add-cells-3 c = omega (arith, placed c)
+
+mul-cells-2 : tie.Need-mul-cells-2 Inv-loop μ-loop
+mul-cells-2 c = omega (arith, placed c)
+
+array-set-from-cells-4 : tie.Need-array-set-from-cells-4 Inv-loop μ-loop
+array-set-from-cells-4 c = omega (arith, placed c)
 
 add-t : tie.Need-add-t Inv-loop μ-loop
 add-t c = omega (arith, placed c)
 
 loop-less : tie.Need-loop-less Inv-loop μ-loop
-loop-less c = let k = c .before .before .before .before .before .before .before .before .before .before .before .before .before in omega (arith, k .loop-test .taken)
+loop-less c = let k = c .before .before .before .before .before .before .before .before .before .before .before .before in omega (arith, k .loop-test .taken)
 
 loop-again : tie.Need-loop-again Inv-loop μ-loop
 loop-again c =
-    let p = c .before in
-    let x = p .before in
+    let x = c .before in
     let m = x .before in
     let r = m .before .before .before in
     let e = r .before .before in
     let k = e .before .before .before .before .before in
     let s = start k in
     next-step (costs k) (s .pre .0) (s .pre .1 .0) (s .pre .1 .1 .1) (at k) (k .before .loop .inv) (more k)
-    (r .incremental-rate .result) (rd (m .max .result)) (x .step-price .result) (rd (p .max2 .result)) (rd (e .end-of .result)) (natOf (kept (wide e) tt .code)) (c .whole .result)
+    (r .incremental-rate .result) (rd (m .max .result)) (x .step-price .result) (rd (c .max2 .result)) (rd (e .end-of .result)) (natOf (kept (wide e) tt .code))
     (rate-is r) (rate-in (m .before)) (largest-is m) (width-is e)
     (x .step-price .ensures ∙ ap (λ (z : ℤ). withAdder (costs k) (rd (m .max .result)) z (natOf (kept (wide e) tt .code))) (rate-read r))
-    (came (p .max2 .result) (p .max2 .ok) ∙ p .max2 .ensures ∙ ap (maxZ (toZ w64 (k .before .loop .price))) (came (x .step-price .result) (x .step-price .ok)))
-    (c .whole .ensures ∙ ap natOf (end-read e ∙ end-is e)) (end-read e ∙ end-is e)
+    (came (c .max2 .result) (c .max2 .ok) ∙ c .max2 .ensures ∙ ap (maxZ (toZ w64 (k .before .loop .price))) (came (x .step-price .result) (x .step-price .ok)))
+    (end-read e ∙ end-is e)
 
-whole-requires-2 : tie.Need-whole-requires-2 Inv-loop μ-loop
-whole-requires-2 c κs = search needs
+by-parts : {s s' e e' : ℕ} {l l' : List ℤ} → s ≡ s' → e ≡ e' → l ≡ l'
+    → _≡_ {A = DefaultCells} (record { outcome = Accepted; start = s; end = e; cells = l }) (record { outcome = Accepted; start = s'; end = e'; cells = l' })
+by-parts a b c = cc
 
 returns-2 : tie.Need-returns-2 Inv-loop μ-loop
+unfolding costCurve
 returns-2 c =
-    let l = c .before .before in
+    let v = c .before in
+    let l = v .before .before in
     let n = l .before .before .before .before in
     let s = n .before .before .before .before .before in
     let d = s .args .t1 in
@@ -318,46 +326,15 @@ returns-2 c =
     let last : stepCount d ≤ t = subst (λ (x : ℕ). x ≤ t) (count-is n) (l .loop-test .left) in
     rw (rates-good d (s .pre .0) (s .pre .1 .0) (s .pre .1 .1 .1) t inv last) (
       refl,
-      ap (λ (x : ℕ). record { start = c .whole2 .result; count = x; steps = l .before .loop .steps }) (count-is n)
-          ∙ curve-is d (s .pre .0) (s .pre .1 .0) (s .pre .1 .1 .1) t inv last (c .whole2 .result) (c .whole2 .ensures ∙ ap natOf (first-read s)),
+      by-parts (v .whole .ensures ∙ ap natOf (first-read s)) (c .whole2 .ensures ∙ law.end-is d (s .pre .0) (s .pre .1 .0) (s .pre .1 .1 .1) t inv last (some-step d (count-in s .0)))
+          (cells-are d (s .pre .0) (s .pre .1 .0) (s .pre .1 .1 .1) t inv last),
     )
 
 pub stepped-spec : {M : Type 1} → statement M
 stepped-spec =
-    tie.close
-    (tie.spec
-    Inv-loop
-    μ-loop
-    sub-segments
-    mul-top
-    element-copy-out-top
-    mark-of-requires
-    split-at-requires
-    steps-of-requires
-    element-copy-out-first
-    sub-largest
-    loop-holds
-    segment-of-requires
-    mul-from
-    element-copy-out-from
-    add-to
-    mul-to
-    element-copy-out-to
-    end-of-requires
-    incremental-rate-requires
-    sub-within
-    within-requires
-    refused-requires
-    returns
-    max-requires
-    sub-step-price
-    step-price-requires
-    max-requires-2
-    whole-requires
-    mul-steps
-    array-set-from-steps
-    add-t
-    loop-less
-    loop-again
-    whole-requires-2
-    returns-2)
+    tie.close (tie.spec Inv-loop μ-loop sub-segments mul-top element-copy-out-top mark-of-requires split-at-requires steps-of-requires
+    (λ c. search needs) cast-cells (λ c. search needs) (λ c. search needs) sub-largest loop-holds (λ c κs. search needs) mul-from
+    element-copy-out-from add-to mul-to element-copy-out-to (λ c κs. search needs) incremental-rate-requires sub-within (λ c κs. search needs)
+    (λ c κs. search needs) returns (λ c κs. search needs) sub-step-price step-price-requires (λ c κs. search needs) add-cells mul-cells
+    array-set-from-cells-3 (λ c. search needs) add-cells-3 mul-cells-2 array-set-from-cells-4 add-t loop-less loop-again (λ c κs. search needs)
+    (λ c κs. search needs) returns-2)

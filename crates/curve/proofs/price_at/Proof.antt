@@ -1,79 +1,39 @@
 -- `curve::price_at` meets its contract. Assumes nothing.
-use mathlib.Core.Path.{_≡_, refl, sym, _∙_}
-use Prim.Native.Nat.{_-_, _<_, _≤_}
+use Prim.Native.Nat.{ℕ, _≤_, _<_}
+use mathlib.Core.Path.{_≡_, sym, ap, _∙_}
+use mathlib.Core.List.{List}
+use mathlib.Core.Logic.{⊎-elim}
 use native.Mathlib.Omega.{arith}
-use borrow.Author.Tests.{lt-ltb, le-ltb}
-use lib.ListN.{length, getD, drop}
-use Rattle.rules_number.proofs.Kit.{came}
-use Rattle.rules_number.proofs.OverLaws.{taken-at}
-use Rattle.rules_curve.specs.Curves.{stepsOf, blankStep, quoteFrom}
-use Rattle.rules_curve.proofs.QuoteLaws.{quote-here, quote-on, quote-end}
 use borrow.Author.Needs.{needs}
+use lib.ListN.{length, take, length-take}
+use lib.Seq.{take-all, take-append-le}
+use Rattle.rules_number.specs.Over.{padded}
+use Rattle.rules_number.proofs.OverLaws.{le-or-lt}
+use Rattle.rules_curve.specs.Curves.{blankStep, quote}
+use Rattle.rules_curve.specs.declared.Step.{Step}
+use Rattle.rules_mitigation.specs.Mitigation.{mostMitigatedSteps}
 use Rattle.curve.proofs.price_at.Statement.{statement}
 use Rattle.curve.proofs.price_at.Tie as tie
 
-abbrev Inv-loop : tie.InvT-loop
-Inv-loop q self n start i₀ i = (i ≤ n) × (quoteFrom (drop i (stepsOf self)) q ≡ quoteFrom (stepsOf self) q)
+-- the steps that count are the same with more room
+same-used : (l : List Step) (k n : ℕ) → n ≡ length (take k l) → take n (padded mostMitigatedSteps blankStep l) ≡ take k l
+unfolding padded
+same-used l k n e = take-append-le n l _ (omega (arith, length-take k l)) ∙ ⊎-elim fewer all (le-or-lt k (length l))
+  where
+    fewer : k ≤ length l → take n l ≡ take k l
+    fewer h = let z : n ≡ k = omega (arith, length-take k l) in ap (λ (j : ℕ). take j l) z
 
-abbrev μ-loop : tie.MeasureT-loop
-μ-loop q self n start i₀ i = n - i
+    all : length l < k → take n l ≡ take k l
+    all h = take-all n l (omega (arith, length-take k l)) ∙ sym (take-all k l (omega arith))
 
-used-requires : tie.Need-used-requires Inv-loop μ-loop
-used-requires c κs = search needs
-
-returns : tie.Need-returns Inv-loop μ-loop
-returns c = rw (lt-ltb _ _ (c .if1 .taken))
-
-loop-holds : tie.Need-loop-holds Inv-loop μ-loop
-loop-holds c = (omega arith, refl)
-
-mul-s : tie.Need-mul-s Inv-loop μ-loop
-mul-s c = search needs
-
-element-copy-out-s : tie.Need-element-copy-out-s Inv-loop μ-loop
-element-copy-out-s c = search needs
-
-returns-2 : tie.Need-returns-2 Inv-loop μ-loop
-returns-2 c =
-    let l = c .before .before .before .before .before in
-    let s = l .before .before .before in
-    let x = getD (s .args .t1 .steps) (l .loop .i) blankStep in
-    let h : l .loop .i < length (stepsOf (s .args .t1)) = omega arith in
-    let f = came (x .price) (c .struct-told .given .1 .0 .1) in
-    rw (f, le-ltb _ _ (l .before .if1 .left)) (sym (quote-here (stepsOf (s .args .t1)) (s .args .q) (l .loop .i) x h (taken-at (s .args .t1 .count) (s .args .t1 .steps) (l .loop .i) blankStep h) (c .before .if2 .taken)) ∙ l .loop .inv .1)
-
-add-i : tie.Need-add-i Inv-loop μ-loop
-add-i c = search needs
-
-loop-less : tie.Need-loop-less Inv-loop μ-loop
-loop-less c = search needs
-
-loop-again : tie.Need-loop-again Inv-loop μ-loop
-loop-again c =
-    let l = c .before .before .before .before in
-    let s = l .before .before .before in
-    let h : l .loop .i < length (stepsOf (s .args .t1)) = omega arith in
-    (omega arith, quote-on (stepsOf (s .args .t1)) (s .args .q) (l .loop .i) _ h (taken-at (s .args .t1 .count) (s .args .t1 .steps) (l .loop .i) blankStep h) (c .if2 .left) (l .loop .inv .1))
-
-returns-3 : tie.Need-returns-3 Inv-loop μ-loop
-returns-3 c =
-    let l = c .before in
-    let s = l .before .before .before in
-    rw (le-ltb _ _ (l .before .if1 .left)) (sym (quote-end (stepsOf (s .args .t1)) (s .args .q) (l .loop .i) (omega arith)) ∙ l .loop .inv .1)
+returns : tie.Need-returns
+returns c =
+    let w = c .before in
+    let u = w .before in
+    let a = u .before .before .args in
+    let n = u .used .result in
+    let e = ap (take n) (w .widened .ensures) ∙ same-used (a .curve .steps) (a .curve .count) n (u .used .ensures .0) in
+    c .price-among .ensures ∙ ap (λ (l : List Step). quote (a .curve .start) l (a .q)) e
 
 pub price-at-spec : {M : Type 1} → statement M
-price-at-spec =
-    tie.close
-    (tie.spec
-    Inv-loop
-    μ-loop
-    used-requires
-    returns
-    loop-holds
-    mul-s
-    element-copy-out-s
-    returns-2
-    add-i
-    loop-less
-    loop-again
-    returns-3)
+price-at-spec = tie.close (tie.spec (λ c κs. search needs) (λ c κs. search needs) (λ c κs. search needs) returns)

@@ -6,20 +6,9 @@ use lib.Seq.{set-out}
 use Rattle.curve_cells.proofs.put.Statement.{statement}
 use Rattle.curve_cells.proofs.put.Tie as tie
 
-mul-edges : tie.Need-mul-edges
-mul-edges c = search needs
-
-slice-write-edges : tie.Need-slice-write-edges
-slice-write-edges c = search needs
-
-same-length : tie.Need-same-length
-same-length c = search needs
-
-returns : tie.Need-returns
-returns c = search needs
-
 returns-2 : tie.Need-returns-2
 returns-2 c = let a = c .before .args in sym (set-out (a .edges .now) (a .i) (a .n) (omega arith))
 
 pub put-spec : {M : Type 1} → statement M
-put-spec = tie.close (tie.spec mul-edges slice-write-edges same-length returns returns-2)
+put-spec =
+    tie.close (tie.spec (λ c. search needs) (λ c. search needs) (λ c. search needs) (λ c. search needs) returns-2)

@@ -20,39 +20,21 @@ over most c l h = rw (le-leb 1 (c .count) l, lt-leb (c .count) most h)
 within : (most : ℕ) (c : RawCurve) → 1 ≤ c .count → c .count ≤ most → countGood most c ≡ true
 within most c l h = rw (le-leb 1 (c .count) l, le-leb (c .count) most h)
 
-refused-requires : tie.Need-refused-requires
-refused-requires c κs = search needs
-
 returns : tie.Need-returns
 returns c =
     let s = c .before .before in
     rw (c .refused .ensures, refused-count (s .args .most) (s .args .low) (s .args .top) (s .args .raw) (rw (c .before .if1 .taken))) (refl, refl)
-
-refused-requires-2 : tie.Need-refused-requires-2
-refused-requires-2 c κs = search needs
 
 returns-2 : tie.Need-returns-2
 returns-2 c =
     let s = c .before .before .before in
     rw (c .refused2 .ensures, refused-count (s .args .most) (s .args .low) (s .args .top) (s .args .raw) (over (s .args .most) (s .args .raw) (omega arith) (omega arith))) (refl, refl)
 
-edges-good-requires : tie.Need-edges-good-requires
-edges-good-requires c κs = search needs
-
-refused-requires-3 : tie.Need-refused-requires-3
-refused-requires-3 c κs = search needs
-
 returns-3 : tie.Need-returns-3
 returns-3 c =
     let s = c .before .before .before .before .before in
     let e = sym (c .before .before .edges-good .ensures) ∙ not-true _ (c .before .if3 .taken) in
     rw (c .refused3 .ensures, refused-edge (s .args .most) (s .args .low) (s .args .top) (s .args .raw) (within (s .args .most) (s .args .raw) (omega arith) (omega arith)) e) (refl, refl)
-
-prices-good-requires : tie.Need-prices-good-requires
-prices-good-requires c κs = search needs
-
-refused-requires-4 : tie.Need-refused-requires-4
-refused-requires-4 c κs = search needs
 
 returns-4 : tie.Need-returns-4
 returns-4 c =
@@ -62,9 +44,6 @@ returns-4 c =
     let ft = toZ-ofZ w64 (s .args .top) (s .fits .top) in
     let p = sym (simp (fl, ft) at (c .before .before .prices-good .ensures)) ∙ not-true _ (c .before .if4 .taken) in
     rw (c .refused4 .ensures, refused-price (s .args .most) (s .args .low) (s .args .top) (s .args .raw) (within (s .args .most) (s .args .raw) (omega arith) (omega arith)) e p) (refl, refl)
-
-settled-requires : tie.Need-settled-requires
-settled-requires c κs = search needs
 
 returns-5 : tie.Need-returns-5
 returns-5 c =
@@ -77,17 +56,5 @@ returns-5 c =
 
 pub checked-spec : {M : Type 1} → statement M
 checked-spec =
-    tie.close
-    (tie.spec
-    refused-requires
-    returns
-    refused-requires-2
-    returns-2
-    edges-good-requires
-    refused-requires-3
-    returns-3
-    prices-good-requires
-    refused-requires-4
-    returns-4
-    settled-requires
-    returns-5)
+    tie.close (tie.spec (λ c κs. search needs) returns (λ c κs. search needs) returns-2 (λ c κs. search needs) (λ c κs. search needs) returns-3
+    (λ c κs. search needs) (λ c κs. search needs) returns-4 (λ c κs. search needs) returns-5)

@@ -4,16 +4,10 @@ use borrow.Author.Needs.{needs}
 use Rattle.curve_checks.proofs.checked_bid.Statement.{statement}
 use Rattle.curve_checks.proofs.checked_bid.Tie as tie
 
-highest-bid-requires : tie.Need-highest-bid-requires
-highest-bid-requires c κs = search needs
-
-checked-requires : tie.Need-checked-requires
-checked-requires c κs = search needs
-
 returns : tie.Need-returns
 returns c =
     let f = came (c .before .highest-bid .result) (c .before .highest-bid .ok) in
     rw (c .before .highest-bid .ensures) at (simp f at (c .checked .ensures))
 
 pub checked-bid-spec : {M : Type 1} → statement M
-checked-bid-spec = tie.close (tie.spec highest-bid-requires checked-requires returns)
+checked-bid-spec = tie.close (tie.spec (λ c κs. search needs) (λ c κs. search needs) returns)

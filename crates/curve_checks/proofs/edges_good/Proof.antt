@@ -21,12 +21,6 @@ Inv-loop self n p₀ i₀ p i = (i ≤ n) × (chain edgeSuits (λ s. s .end) (to
 abbrev μ-loop : tie.MeasureT-loop
 μ-loop self n p₀ i₀ p i = n - i
 
-raw-used-requires : tie.Need-raw-used-requires Inv-loop μ-loop
-raw-used-requires c κs = search needs
-
-within-requires : tie.Need-within-requires Inv-loop μ-loop
-within-requires c κs = search needs
-
 returns : tie.Need-returns Inv-loop μ-loop
 returns c =
     let s = c .before .before .before .before in
@@ -40,12 +34,6 @@ loop-holds c =
     let f = came (s .args .t1 .start) (c .before .before .struct-told .given .0 .1) in
     let inside = sym (simp f at (c .before .within .ensures)) ∙ not-false _ (c .if1 .left) in
     (omega arith, rw (f, inside))
-
-mul-s : tie.Need-mul-s Inv-loop μ-loop
-mul-s c = search needs
-
-element-copy-out-s : tie.Need-element-copy-out-s Inv-loop μ-loop
-element-copy-out-s c = search needs
 
 returns-2 : tie.Need-returns-2 Inv-loop μ-loop
 returns-2 c =
@@ -68,12 +56,6 @@ returns-3 c =
     let u = lt-not-le (pos 1000000) (x .end) (simp f at (c .if3 .taken)) in
     sym (chain-stop edgeSuits (λ s. s .end) (toZ w64 (l .loop .p)) (rawSteps (s .args .t1)) (l .loop .i) rawBlank x h (taken-at (s .args .t1 .count) (s .args .t1 .steps) (l .loop .i) rawBlank h) (rw (t, u))) ∙ l .loop .inv .1
 
-add-i : tie.Need-add-i Inv-loop μ-loop
-add-i c = search needs
-
-loop-less : tie.Need-loop-less Inv-loop μ-loop
-loop-less c = search needs
-
 loop-again : tie.Need-loop-again Inv-loop μ-loop
 loop-again c =
     let l = c .before .before .before .before .before in
@@ -93,19 +75,5 @@ returns-4 c =
 
 pub edges-good-spec : {M : Type 1} → statement M
 edges-good-spec =
-    tie.close
-    (tie.spec
-    Inv-loop
-    μ-loop
-    raw-used-requires
-    within-requires
-    returns
-    loop-holds
-    mul-s
-    element-copy-out-s
-    returns-2
-    returns-3
-    add-i
-    loop-less
-    loop-again
-    returns-4)
+    tie.close (tie.spec Inv-loop μ-loop (λ c κs. search needs) (λ c κs. search needs) returns loop-holds (λ c. search needs) (λ c. search needs)
+    returns-2 returns-3 (λ c. search needs) (λ c. search needs) loop-again returns-4)

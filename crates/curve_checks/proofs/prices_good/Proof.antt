@@ -20,19 +20,10 @@ Inv-loop low top self n p₀ i₀ p i = (i ≤ n) × (chain (priceSuits (toZ w64
 abbrev μ-loop : tie.MeasureT-loop
 μ-loop low top self n p₀ i₀ p i = n - i
 
-raw-used-requires : tie.Need-raw-used-requires Inv-loop μ-loop
-raw-used-requires c κs = search needs
-
 loop-holds : tie.Need-loop-holds Inv-loop μ-loop
 loop-holds c =
     let fl = toZ-ofZ w64 (c .before .args .low) (c .before .fits .low) in
     (omega arith, rw fl)
-
-mul-s : tie.Need-mul-s Inv-loop μ-loop
-mul-s c = search needs
-
-element-copy-out-s : tie.Need-element-copy-out-s Inv-loop μ-loop
-element-copy-out-s c = search needs
 
 returns : tie.Need-returns Inv-loop μ-loop
 returns c =
@@ -59,12 +50,6 @@ returns-2 c =
     let u = lt-not-le (s .args .top) (x .price) (simp (f, ft) at (c .if2 .taken)) in
     sym (chain-stop (priceSuits (s .args .top)) (λ s. s .price) (toZ w64 (l .loop .p)) (rawSteps (s .args .t1)) (l .loop .i) rawBlank x h (taken-at (s .args .t1 .count) (s .args .t1 .steps) (l .loop .i) rawBlank h) (rw (t, u))) ∙ rw (ft, fl) at (l .loop .inv .1)
 
-add-i : tie.Need-add-i Inv-loop μ-loop
-add-i c = search needs
-
-loop-less : tie.Need-loop-less Inv-loop μ-loop
-loop-less c = search needs
-
 loop-again : tie.Need-loop-again Inv-loop μ-loop
 loop-again c =
     let l = c .before .before .before .before .before in
@@ -87,17 +72,5 @@ returns-3 c =
 
 pub prices-good-spec : {M : Type 1} → statement M
 prices-good-spec =
-    tie.close
-    (tie.spec
-    Inv-loop
-    μ-loop
-    raw-used-requires
-    loop-holds
-    mul-s
-    element-copy-out-s
-    returns
-    returns-2
-    add-i
-    loop-less
-    loop-again
-    returns-3)
+    tie.close (tie.spec Inv-loop μ-loop (λ c κs. search needs) loop-holds (λ c. search needs) (λ c. search needs) returns returns-2
+    (λ c. search needs) (λ c. search needs) loop-again returns-3)

@@ -20,36 +20,9 @@ Inv-loop self n start steps₀ i₀ steps i = (i ≤ n) × (steps ≡ padded mos
 abbrev μ-loop : tie.MeasureT-loop
 μ-loop self n start steps₀ i₀ steps i = n - i
 
-raw-used-requires : tie.Need-raw-used-requires Inv-loop μ-loop
-raw-used-requires c κs = search needs
-
-whole-requires : tie.Need-whole-requires Inv-loop μ-loop
-whole-requires c κs = search needs
-
 loop-holds : tie.Need-loop-holds Inv-loop μ-loop
 unfolding padded
 loop-holds c = (omega arith, refl)
-
-mul-s : tie.Need-mul-s Inv-loop μ-loop
-mul-s c = search needs
-
-element-copy-out-s : tie.Need-element-copy-out-s Inv-loop μ-loop
-element-copy-out-s c = search needs
-
-settled-step-requires : tie.Need-settled-step-requires Inv-loop μ-loop
-settled-step-requires c κs = search needs
-
-mul-steps : tie.Need-mul-steps Inv-loop μ-loop
-mul-steps c = search needs
-
-array-set-from-steps : tie.Need-array-set-from-steps Inv-loop μ-loop
-array-set-from-steps c = search needs
-
-add-i : tie.Need-add-i Inv-loop μ-loop
-add-i c = search needs
-
-loop-less : tie.Need-loop-less Inv-loop μ-loop
-loop-less c = search needs
 
 loop-again : tie.Need-loop-again Inv-loop μ-loop
 loop-again c =
@@ -70,19 +43,5 @@ returns c =
 
 pub settled-spec : {M : Type 1} → statement M
 settled-spec =
-    tie.close
-    (tie.spec
-    Inv-loop
-    μ-loop
-    raw-used-requires
-    whole-requires
-    loop-holds
-    mul-s
-    element-copy-out-s
-    settled-step-requires
-    mul-steps
-    array-set-from-steps
-    add-i
-    loop-less
-    loop-again
-    returns)
+    tie.close (tie.spec Inv-loop μ-loop (λ c κs. search needs) (λ c κs. search needs) loop-holds (λ c. search needs) (λ c. search needs)
+    (λ c κs. search needs) (λ c. search needs) (λ c. search needs) (λ c. search needs) (λ c. search needs) loop-again returns)

@@ -4,9 +4,6 @@ use borrow.Author.Needs.{needs}
 use Rattle.curve_checks.proofs.settled_step.Statement.{statement}
 use Rattle.curve_checks.proofs.settled_step.Tie as tie
 
-whole-requires : tie.Need-whole-requires
-whole-requires c κs = search needs
-
 returns : tie.Need-returns
 returns c =
     let s = c .before .before .before .args .step in
@@ -15,4 +12,4 @@ returns c =
     rw (c .before .whole .ensures, fe, fp)
 
 pub settled-step-spec : {M : Type 1} → statement M
-settled-step-spec = tie.close (tie.spec whole-requires returns)
+settled-step-spec = tie.close (tie.spec (λ c κs. search needs) returns)

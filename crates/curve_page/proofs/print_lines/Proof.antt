@@ -48,9 +48,6 @@ holds-both e =
     let s = start (e .before .before) in
     ap (λ (b : Bool). b && hasRoom mostMitigatedSteps (s .args .widths .now) (s .args .base)) (holds (e .before .before)) ∙ holds-widths e
 
-has-room-requires : tie.Need-has-room-requires
-has-room-requires c κs = search needs
-
 returns : tie.Need-returns
 returns c =
     let h = c .before in
@@ -58,9 +55,6 @@ returns c =
     let e : hasRoom curveBytes (s .args .out .now) (s .args .at) ≡ false = sym (h .has-room .ensures) ∙ not-true (h .has-room .result) (c .if1 .taken) in
     let f : both s ≡ false = ap (λ (b : Bool). b && hasRoom mostMitigatedSteps (s .args .widths .now) (s .args .base)) e in
     (none-in (both s) (s .args .out .now) (s .args .at) (text s) f, (none-in (both s) (s .args .widths .now) (s .args .base) (wide s) f, (none-to (both s) (s .args .out .now) (s .args .at) (text s) f, λ h. never (sym f ∙ h))))
-
-has-room-requires-2 : tie.Need-has-room-requires-2
-has-room-requires-2 c κs = search needs
 
 returns-2 : tie.Need-returns-2
 returns-2 c =
@@ -91,12 +85,6 @@ put-lines-requires c κs =
     let s = start (f .before .before) in
     (leb-true (s .args .at + curveBytes) (length (s .args .out .now)) (holds (f .before .before)), omega (arith, e .if3 .left), leb-true (s .args .base + mostMitigatedSteps) (length (s .args .widths .now)) (holds-widths f))
 
-same-length : tie.Need-same-length
-same-length c = search needs
-
-same-length-2 : tie.Need-same-length-2
-same-length-2 c = search needs
-
 returns-4 : tie.Need-returns-4
 returns-4 c =
     let p = c .before .before .before .before in
@@ -112,14 +100,5 @@ returns-4 c =
 
 pub print-lines-spec : {M : Type 1} → statement M
 print-lines-spec =
-    tie.close
-    (tie.spec
-    has-room-requires
-    returns
-    has-room-requires-2
-    returns-2
-    returns-3
-    put-lines-requires
-    same-length
-    same-length-2
-    returns-4)
+    tie.close (tie.spec (λ c κs. search needs) returns (λ c κs. search needs) returns-2 returns-3 put-lines-requires (λ c. search needs)
+    (λ c. search needs) returns-4)

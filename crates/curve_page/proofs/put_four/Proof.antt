@@ -32,24 +32,6 @@ put c =
     let fd = came (s .args .price) (s .fits .price .sfits) in
     (simp (fa, fb, fc, fd) at (c .print-line .ensures .0), simp (fa, fb, fc, fd) at (c .print-line .ensures .1))
 
-printable-requires : tie.Need-printable-requires
-printable-requires c κs = search needs
-
-printable-requires-2 : tie.Need-printable-requires-2
-printable-requires-2 c κs = search needs
-
-print-line-requires : tie.Need-print-line-requires
-print-line-requires c κs = search needs
-
-enum-known-next : tie.Need-enum-known-next
-enum-known-next c = search needs
-
-enum-told : tie.Need-enum-told
-enum-told c = search needs
-
-same-length : tie.Need-same-length
-same-length c = search needs
-
 returns : tie.Need-returns
 returns c =
     let p = c .before .before .before .before .before in
@@ -58,9 +40,6 @@ returns c =
     let n = few p in
     let r = put-to (a .out .now) (a .at) (text p) (p .print-line .last .0) (p .print-line .result) (omega arith) (put p .0) (put p .1) (c .before .next .given .0 .0) (c .before .next .given .1) in
     record { buffer = r .0; next = r .1; few = omega (arith, r .1) }
-
-same-length-2 : tie.Need-same-length-2
-same-length-2 c = search needs
 
 returns-2 : tie.Need-returns-2
 returns-2 c =
@@ -72,14 +51,5 @@ returns-2 c =
 
 pub put-four-spec : {M : Type 1} → statement M
 put-four-spec =
-    tie.close
-    (tie.spec
-    printable-requires
-    printable-requires-2
-    print-line-requires
-    enum-known-next
-    enum-told
-    same-length
-    returns
-    same-length-2
-    returns-2)
+    tie.close (tie.spec (λ c κs. search needs) (λ c κs. search needs) (λ c κs. search needs) (λ c. search needs) (λ c. search needs)
+    (λ c. search needs) returns (λ c. search needs) returns-2)

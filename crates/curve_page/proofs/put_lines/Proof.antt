@@ -43,9 +43,6 @@ rows m =
     rows-put mostMitigatedSteps (steps m) (steps-few (a .state .now) (a .r)) _ _ (m .mitigated-into .result) (e .0) (e .1 .0) (e .1 .1)
     ∙ sym (rows-are (a .state .now) (a .r))
 
-mitigated-into-requires : tie.Need-mitigated-into-requires
-mitigated-into-requires c κs = search needs
-
 slice-aggregate-put-steps : tie.Need-slice-aggregate-put-steps
 slice-aggregate-put-steps c = sym (ends-long (c .before .before))
 
@@ -58,12 +55,6 @@ put-steps-requires c κs =
     let s = start m in
     ((s .pre .0, s .pre .1), ((few m, omega (arith, few m, ends-long m), omega (arith, few m, prices-long m)), s .pre .2))
 
-same-length : tie.Need-same-length
-same-length c = search needs
-
-same-length-2 : tie.Need-same-length-2
-same-length-2 c = search needs
-
 returns : tie.Need-returns
 returns c =
     let p = c .before .before .before .before in
@@ -72,12 +63,5 @@ returns c =
 
 pub put-lines-spec : {M : Type 1} → statement M
 put-lines-spec =
-    tie.close
-    (tie.spec
-    mitigated-into-requires
-    slice-aggregate-put-steps
-    slice-aggregate-put-steps-2
-    put-steps-requires
-    same-length
-    same-length-2
-    returns)
+    tie.close (tie.spec (λ c κs. search needs) slice-aggregate-put-steps slice-aggregate-put-steps-2 put-steps-requires (λ c. search needs)
+    (λ c. search needs) returns)

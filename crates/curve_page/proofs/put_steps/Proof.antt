@@ -63,18 +63,6 @@ put f =
 loop-holds : tie.Need-loop-holds Inv-loop μ-loop
 loop-holds c = (putting-start _ _ _, omega arith, omega arith, refl, rw (add-zero (c .before .before .args .base)))
 
-mul-put-four : tie.Need-mul-put-four Inv-loop μ-loop
-mul-put-four c = search needs
-
-shared-slice-copy-out-put-four : tie.Need-shared-slice-copy-out-put-four Inv-loop μ-loop
-shared-slice-copy-out-put-four c = search needs
-
-mul-put-four-2 : tie.Need-mul-put-four-2 Inv-loop μ-loop
-mul-put-four-2 c = search needs
-
-shared-slice-copy-out-put-four-2 : tie.Need-shared-slice-copy-out-put-four-2 Inv-loop μ-loop
-shared-slice-copy-out-put-four-2 c = search needs
-
 put-four-requires : tie.Need-put-four-requires Inv-loop μ-loop
 put-four-requires c κs = let l = c .before .before .before in omega (arith, l .loop-test .taken, l .before .loop .inv .0 .long, l .before .loop .inv .2, start l .pre .0 .0, start l .pre .1 .0 .0)
 
@@ -127,22 +115,5 @@ returns c =
 
 pub put-steps-spec : {M : Type 1} → statement M
 put-steps-spec =
-    tie.close
-    (tie.spec
-    Inv-loop
-    μ-loop
-    loop-holds
-    mul-put-four
-    shared-slice-copy-out-put-four
-    mul-put-four-2
-    shared-slice-copy-out-put-four-2
-    put-four-requires
-    width-requires
-    add-widths
-    slice-write-widths
-    add-k
-    loop-less
-    loop-again
-    same-length
-    same-length-2
-    returns)
+    tie.close (tie.spec Inv-loop μ-loop loop-holds (λ c. search needs) (λ c. search needs) (λ c. search needs) (λ c. search needs) put-four-requires
+    width-requires add-widths slice-write-widths add-k loop-less loop-again same-length same-length-2 returns)

@@ -46,9 +46,6 @@ mul-ceil-by c = fits (scaled (c .before .before)) tt
 sub-ceil-by : tie.Need-sub-ceil-by
 sub-ceil-by c = fits (less (c .before .before)) tt
 
-ceil-by-requires : tie.Need-ceil-by-requires
-ceil-by-requires c κs = search needs
-
 add-t7 : tie.Need-add-t7
 add-t7 c = fits (floor c) tt
 
@@ -64,5 +61,4 @@ returns-3 c =
 
 pub cut-by-spec : {M : Type 1} → statement M
 cut-by-spec =
-    tie.close
-    (tie.spec returns returns-2 mul-ceil-by sub-ceil-by ceil-by-requires add-t7 returns-3)
+    tie.close (tie.spec returns returns-2 mul-ceil-by sub-ceil-by (λ c κs. search needs) add-t7 returns-3)

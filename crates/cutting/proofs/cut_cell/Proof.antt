@@ -6,45 +6,9 @@ use borrow.Author.Needs.{needs}
 use Rattle.cutting.proofs.cut_cell.Statement.{statement}
 use Rattle.cutting.proofs.cut_cell.Tie as tie
 
-enum-known-cut : tie.Need-enum-known-cut
-enum-known-cut c = search needs
-
-enum-told : tie.Need-enum-told
-enum-told c = search needs
-
 returns : tie.Need-returns
 unfolding cutCell
 returns c = rw (c .enum-told .given .1)
-
-add-at : tie.Need-add-at
-add-at c = search needs
-
-add-at-2 : tie.Need-add-at-2
-add-at-2 c = search needs
-
-add-cell-at : tie.Need-add-cell-at
-add-cell-at c = search needs
-
-cell-at-requires : tie.Need-cell-at-requires
-cell-at-requires c κs = search needs
-
-cell-at-requires-2 : tie.Need-cell-at-requires-2
-cell-at-requires-2 c κs = search needs
-
-add-put : tie.Need-add-put
-add-put c = search needs
-
-put-requires : tie.Need-put-requires
-put-requires c κs = search needs
-
-lowered-to-requires : tie.Need-lowered-to-requires
-lowered-to-requires c κs = search needs
-
-put-requires-2 : tie.Need-put-requires-2
-put-requires-2 c κs = search needs
-
-same-length : tie.Need-same-length
-same-length c = search needs
 
 returns-2 : tie.Need-returns-2
 returns-2 c =
@@ -65,19 +29,6 @@ returns-2 c =
 
 pub cut-cell-spec : {M : Type 1} → statement M
 cut-cell-spec =
-    tie.close
-    (tie.spec
-    enum-known-cut
-    enum-told
-    returns
-    add-at
-    add-at-2
-    add-cell-at
-    cell-at-requires
-    cell-at-requires-2
-    add-put
-    put-requires
-    lowered-to-requires
-    put-requires-2
-    same-length
-    returns-2)
+    tie.close (tie.spec (λ c. search needs) (λ c. search needs) returns (λ c. search needs) (λ c. search needs) (λ c. search needs)
+    (λ c κs. search needs) (λ c κs. search needs) (λ c. search needs) (λ c κs. search needs) (λ c κs. search needs) (λ c κs. search needs)
+    (λ c. search needs) returns-2)

@@ -17,9 +17,6 @@ returns c =
     let s = c .before in
     came (s .args .price) (s .fits .price .sfits) ∙ ap (λ (m : ℤ). priceOf (lowered (floorOf m (s .args .before) .price) (Cut (s .args .price)))) (sym (bits-same (s .args .mark) (pos 0) (s .fits .mark) (pos-fits 0 tt) (c .if1 .taken)))
 
-min-requires : tie.Need-min-requires
-min-requires c κs = search needs
-
 returns-2 : tie.Need-returns-2
 returns-2 c =
     let s = c .before .before in
@@ -28,4 +25,4 @@ returns-2 c =
     came (c .min .result) (c .min .ok) ∙ simp (fb, fp) at (c .min .ensures) ∙ sym (lower-marked (s .args .mark) (s .args .before) (s .args .price) (λ e. c .before .if1 .left (ap (ofZ w64) e)))
 
 pub lowered-to-spec : {M : Type 1} → statement M
-lowered-to-spec = tie.close (tie.spec returns min-requires returns-2)
+lowered-to-spec = tie.close (tie.spec returns (λ c κs. search needs) returns-2)

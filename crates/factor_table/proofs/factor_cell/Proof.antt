@@ -10,14 +10,9 @@ returns c = simp (le-ltb _ _ (c .if1 .taken))
 returns-2 : tie.Need-returns-2
 returns-2 c = simp (lt-ltb _ _ (c .before .if1 .left), le-ltb _ _ (c .if2 .taken))
 
-mul-result : tie.Need-mul-result
-mul-result c = search needs
-
-add-result : tie.Need-add-result
-add-result c = search needs
-
 returns-3 : tie.Need-returns-3
 returns-3 c = simp (lt-ltb _ _ (c .before .if1 .left), lt-ltb _ _ (c .if2 .left))
 
 pub factor-cell-spec : {M : Type 1} → statement M
-factor-cell-spec = tie.close (tie.spec returns returns-2 mul-result add-result returns-3)
+factor-cell-spec =
+    tie.close (tie.spec returns returns-2 (λ c. search needs) (λ c. search needs) returns-3)

@@ -14,21 +14,12 @@ use Rattle.gas_book.proofs.days_rise.Reads as days-rise-reads
 use Rattle.gas_book.proofs.length_to.Reads as length-to-reads
 
 -- src/lib.rt:51:9
-slice-aggregate-result : tie.Need-slice-aggregate-result
-slice-aggregate-result c = search needs
-
 -- src/lib.rt:51:9
 returns : tie.Need-returns
 returns c = let a = c .before .before .before .args in run-odd (a .day) (a .list .now) (c .before .if1 .taken)
 
 -- src/lib.rt:53:9
-days-rise-requires : tie.Need-days-rise-requires
-days-rise-requires c κs = search needs
-
 -- src/lib.rt:54:9
-slice-aggregate-result-2 : tie.Need-slice-aggregate-result-2
-slice-aggregate-result-2 c = search needs
-
 -- src/lib.rt:54:9
 returns-2 : tie.Need-returns-2
 returns-2 c =
@@ -36,9 +27,6 @@ returns-2 c =
     run-fall (a .day) (a .list .now) (sym (c .before .before .days-rise .ensures) ∙ not-true (c .before .before .days-rise .result) (c .before .if2 .taken))
 
 -- src/lib.rt:56:9
-length-to-requires : tie.Need-length-to-requires
-length-to-requires c κs = search needs
-
 -- src/lib.rt:57:5
 slice-aggregate-result-3 : tie.Need-slice-aggregate-result-3
 slice-aggregate-result-3 c =
@@ -56,13 +44,5 @@ returns-3 c =
 
 pub run-in-spec : {M : Type 1} → statement M
 run-in-spec =
-    tie.close
-    (tie.spec
-    slice-aggregate-result
-    returns
-    days-rise-requires
-    slice-aggregate-result-2
-    returns-2
-    length-to-requires
-    slice-aggregate-result-3
-    returns-3)
+    tie.close (tie.spec (λ c. search needs) returns (λ c κs. search needs) (λ c. search needs) returns-2 (λ c κs. search needs)
+    slice-aggregate-result-3 returns-3)

@@ -6,12 +6,6 @@ use borrow.Author.Needs.{needs}
 use Rattle.gas_default.proofs.default_curve.Statement.{statement}
 use Rattle.gas_default.proofs.default_curve.Tie as tie
 
-price-in-use-requires : tie.Need-price-in-use-requires
-price-in-use-requires c κs = search needs
-
-priced-requires : tie.Need-priced-requires
-priced-requires c κs = search needs
-
 returns : tie.Need-returns
 returns c =
     let a = c .before .before .before .before .args in
@@ -20,4 +14,4 @@ returns c =
     (p .0 ∙ ap (λ (g : GasPrice). pricedRefusal g (a .costs)) e, p .1 ∙ ap (λ (g : GasPrice). pricedCurve g (a .costs)) e)
 
 pub default-curve-spec : {M : Type 1} → statement M
-default-curve-spec = tie.close (tie.spec price-in-use-requires priced-requires returns)
+default-curve-spec = tie.close (tie.spec (λ c κs. search needs) (λ c κs. search needs) returns)

@@ -7,15 +7,6 @@ use borrow.Author.Needs.{needs}
 use Rattle.gas_default.proofs.default_on.Statement.{statement}
 use Rattle.gas_default.proofs.default_on.Tie as tie
 
-run-in-requires : tie.Need-run-in-requires
-run-in-requires c κs = search needs
-
-price-of-requires : tie.Need-price-of-requires
-price-of-requires c κs = search needs
-
-priced-requires : tie.Need-priced-requires
-priced-requires c κs = search needs
-
 returns : tie.Need-returns
 returns c =
     let a = c .before .before .before .before .args in
@@ -24,4 +15,5 @@ returns c =
     (p .0 ∙ ap (λ (g : GasPrice). pricedRefusal g (a .costs)) e, p .1 ∙ ap (λ (g : GasPrice). pricedCurve g (a .costs)) e)
 
 pub default-on-spec : {M : Type 1} → statement M
-default-on-spec = tie.close (tie.spec run-in-requires price-of-requires priced-requires returns)
+default-on-spec =
+    tie.close (tie.spec (λ c κs. search needs) (λ c κs. search needs) (λ c κs. search needs) returns)

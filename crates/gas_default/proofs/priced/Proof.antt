@@ -11,21 +11,6 @@ use borrow.Author.Needs.{needs}
 use Rattle.gas_default.proofs.priced.Statement.{statement}
 use Rattle.gas_default.proofs.priced.Tie as tie
 
-enum-known-price : tie.Need-enum-known-price
-enum-known-price c = search needs
-
-with-gas-requires : tie.Need-with-gas-requires
-with-gas-requires c κs = search needs
-
-default-curve-requires : tie.Need-default-curve-requires
-default-curve-requires c κs = search needs
-
-enum-told : tie.Need-enum-told
-enum-told c = search needs
-
-refused-requires : tie.Need-refused-requires
-refused-requires c κs = search needs
-
 returns : tie.Need-returns
 returns c =
     let a = c .before .before .before .before .before .args in
@@ -47,12 +32,5 @@ returns-2 c =
 
 pub priced-spec : {M : Type 1} → statement M
 priced-spec =
-    tie.close
-    (tie.spec
-    enum-known-price
-    with-gas-requires
-    default-curve-requires
-    enum-told
-    refused-requires
-    returns
+    tie.close (tie.spec (λ c. search needs) (λ c κs. search needs) (λ c κs. search needs) (λ c. search needs) (λ c κs. search needs) returns
     returns-2)

@@ -8,9 +8,6 @@ use Rattle.rules_gas.specs.Booked.{withGas}
 use Rattle.gas_default.proofs.with_gas.Statement.{statement}
 use Rattle.gas_default.proofs.with_gas.Tie as tie
 
-cast-t4 : tie.Need-cast-t4
-cast-t4 c = search needs
-
 returns : tie.Need-returns
 unfolding withGas
 returns c =
@@ -27,4 +24,4 @@ returns c =
     )
 
 pub with-gas-spec : {M : Type 1} → statement M
-with-gas-spec = tie.close (tie.spec cast-t4 returns)
+with-gas-spec = tie.close (tie.spec (λ c. search needs) returns)

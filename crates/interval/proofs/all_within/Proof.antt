@@ -38,24 +38,12 @@ loop-holds : tie.Need-loop-holds Inv-loop μ-loop
 unfolding allTo
 loop-holds c = (omega arith, refl)
 
-sub-loop : tie.Need-sub-loop Inv-loop μ-loop
-sub-loop c = search needs
-
-four-within-requires : tie.Need-four-within-requires Inv-loop μ-loop
-four-within-requires c κs = search needs
-
 returns : tie.Need-returns Inv-loop μ-loop
 unfolding allWithin
 returns c =
     let l = c .before .before .before in
     let s = l .before in
     sym (all-short (λ k. inRange (s .args .lo) (s .args .hi) (cell (s .args .numbers .now) k)) (l .loop .i + 4) (s .args .n) (omega arith) (four (c .before) ∙ not-true _ (c .if1 .taken)))
-
-add-i : tie.Need-add-i Inv-loop μ-loop
-add-i c = search needs
-
-loop-less : tie.Need-loop-less Inv-loop μ-loop
-loop-less c = search needs
 
 loop-again : tie.Need-loop-again Inv-loop μ-loop
 loop-again c =
@@ -73,16 +61,5 @@ returns-2 c =
 
 pub all-within-spec : {M : Type 1} → statement M
 all-within-spec =
-    tie.close
-    (tie.spec
-    Inv-loop
-    μ-loop
-    loop-holds
-    sub-loop
-    four-within-requires
-    returns
-    add-i
-    loop-less
-    loop-again
-    rest-within-requires
-    returns-2)
+    tie.close (tie.spec Inv-loop μ-loop loop-holds (λ c. search needs) (λ c κs. search needs) returns (λ c. search needs) (λ c. search needs)
+    loop-again rest-within-requires returns-2)

@@ -47,17 +47,11 @@ returns-3 c =
     let s = c .before .before .before in
     sym (refused-constraints (s .args .known) (lent s) (same (c .before)) (lt-leb (s .args .constraints) 32 (c .if3 .taken)))
 
-ranges-good-requires : tie.Need-ranges-good-requires
-ranges-good-requires c κs = search needs
-
 returns-4 : tie.Need-returns-4
 returns-4 c =
     let e = c .before .before .before .before in
     let s = e .before .before .before in
     sym (refused-range (s .args .known) (lent s) (same (e .before)) (few e) (sym (ranges-is (c .before)) ∙ not-true _ (c .if4 .taken)))
-
-outputs-good-requires : tie.Need-outputs-good-requires
-outputs-good-requires c κs = search needs
 
 returns-5 : tie.Need-returns-5
 returns-5 c =
@@ -75,13 +69,4 @@ returns-6 c =
 
 pub checked-spec : {M : Type 1} → statement M
 checked-spec =
-    tie.close
-    (tie.spec
-    returns
-    returns-2
-    returns-3
-    ranges-good-requires
-    returns-4
-    outputs-good-requires
-    returns-5
-    returns-6)
+    tie.close (tie.spec returns returns-2 returns-3 (λ c κs. search needs) returns-4 (λ c κs. search needs) returns-5 returns-6)

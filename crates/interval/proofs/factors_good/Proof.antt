@@ -29,24 +29,12 @@ loop-holds : tie.Need-loop-holds Inv-loop μ-loop
 unfolding allTo
 loop-holds c = (omega arith, refl)
 
-mul-row-good : tie.Need-mul-row-good Inv-loop μ-loop
-mul-row-good c = search needs
-
-row-good-requires : tie.Need-row-good-requires Inv-loop μ-loop
-row-good-requires c κs = search needs
-
 returns : tie.Need-returns Inv-loop μ-loop
 unfolding factorsGood
 returns c =
     let l = c .before .before .before in
     let s = l .before in
     sym (all-fails (λ k. rowGood (s .args .factors .now) k (s .args .m)) (s .args .n) (l .loop .r) (omega arith) (sym (is (c .before)) ∙ not-true _ (c .if1 .taken)))
-
-add-r : tie.Need-add-r Inv-loop μ-loop
-add-r c = search needs
-
-loop-less : tie.Need-loop-less Inv-loop μ-loop
-loop-less c = search needs
 
 loop-again : tie.Need-loop-again Inv-loop μ-loop
 loop-again c =
@@ -63,15 +51,5 @@ returns-2 c =
 
 pub factors-good-spec : {M : Type 1} → statement M
 factors-good-spec =
-    tie.close
-    (tie.spec
-    Inv-loop
-    μ-loop
-    loop-holds
-    mul-row-good
-    row-good-requires
-    returns
-    add-r
-    loop-less
-    loop-again
-    returns-2)
+    tie.close (tie.spec Inv-loop μ-loop loop-holds (λ c. search needs) (λ c κs. search needs) returns (λ c. search needs) (λ c. search needs)
+    loop-again returns-2)

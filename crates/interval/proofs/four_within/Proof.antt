@@ -42,59 +42,14 @@ fourth c =
     let s = c .before .before .before .before .before .before .before .before .before .before .before in
     simp (toZ-ofZ w64 (s .args .lo) (s .fits .lo), toZ-ofZ w64 (s .args .hi) (s .fits .hi), came (cell (s .args .numbers .now) (s .args .i + 3)) (c .before .within-arg4 .given)) at (c .within4 .ensures)
 
-mul-within : tie.Need-mul-within
-mul-within c = search needs
-
-shared-slice-copy-out-within : tie.Need-shared-slice-copy-out-within
-shared-slice-copy-out-within c = search needs
-
-within-requires : tie.Need-within-requires
-within-requires c κs = search needs
-
 returns : tie.Need-returns
 returns c = sym (all-fails (test (c .before .before .before)) 4 0 (omega arith) (sym (first (c .before)) ∙ not-true _ (c .if1 .taken)))
-
-add-within : tie.Need-add-within
-add-within c = search needs
-
-mul-within-2 : tie.Need-mul-within-2
-mul-within-2 c = search needs
-
-shared-slice-copy-out-within-2 : tie.Need-shared-slice-copy-out-within-2
-shared-slice-copy-out-within-2 c = search needs
-
-within-requires-2 : tie.Need-within-requires-2
-within-requires-2 c κs = search needs
 
 returns-2 : tie.Need-returns-2
 returns-2 c = sym (all-fails (test (c .before .before .before .before .before .before)) 4 1 (omega arith) (sym (second (c .before)) ∙ not-true _ (c .if2 .taken)))
 
-add-within-2 : tie.Need-add-within-2
-add-within-2 c = search needs
-
-mul-within-3 : tie.Need-mul-within-3
-mul-within-3 c = search needs
-
-shared-slice-copy-out-within-3 : tie.Need-shared-slice-copy-out-within-3
-shared-slice-copy-out-within-3 c = search needs
-
-within-requires-3 : tie.Need-within-requires-3
-within-requires-3 c κs = search needs
-
 returns-3 : tie.Need-returns-3
 returns-3 c = sym (all-fails (test (c .before .before .before .before .before .before .before .before .before)) 4 2 (omega arith) (sym (third (c .before)) ∙ not-true _ (c .if3 .taken)))
-
-add-within-3 : tie.Need-add-within-3
-add-within-3 c = search needs
-
-mul-within-4 : tie.Need-mul-within-4
-mul-within-4 c = search needs
-
-shared-slice-copy-out-within-4 : tie.Need-shared-slice-copy-out-within-4
-shared-slice-copy-out-within-4 c = search needs
-
-within-requires-4 : tie.Need-within-requires-4
-within-requires-4 c κs = search needs
 
 returns-4 : tie.Need-returns-4
 returns-4 c =
@@ -107,24 +62,6 @@ returns-4 c =
 
 pub four-within-spec : {M : Type 1} → statement M
 four-within-spec =
-    tie.close
-    (tie.spec
-    mul-within
-    shared-slice-copy-out-within
-    within-requires
-    returns
-    add-within
-    mul-within-2
-    shared-slice-copy-out-within-2
-    within-requires-2
-    returns-2
-    add-within-2
-    mul-within-3
-    shared-slice-copy-out-within-3
-    within-requires-3
-    returns-3
-    add-within-3
-    mul-within-4
-    shared-slice-copy-out-within-4
-    within-requires-4
-    returns-4)
+    tie.close (tie.spec (λ c. search needs) (λ c. search needs) (λ c κs. search needs) returns (λ c. search needs) (λ c. search needs)
+    (λ c. search needs) (λ c κs. search needs) returns-2 (λ c. search needs) (λ c. search needs) (λ c. search needs) (λ c κs. search needs) returns-3
+    (λ c. search needs) (λ c. search needs) (λ c. search needs) (λ c κs. search needs) returns-4)

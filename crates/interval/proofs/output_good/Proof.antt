@@ -30,25 +30,15 @@ dispatch-is c =
     let s = c .before .before .before .before .before in
     simp (toZ-ofZ w64 (s .args .available) (s .fits .available), toZ-ofZ w64 (s .args .dispatch) (s .fits .dispatch)) at (c .within3 .ensures)
 
-within-requires : tie.Need-within-requires
-within-requires c κs = search needs
-
 returns : tie.Need-returns
 returns c = simp (sym (available-is (c .before)) ∙ not-true _ (c .if1 .taken))
 
-within-requires-2 : tie.Need-within-requires-2
-within-requires-2 c κs = search needs
-
 returns-2 : tie.Need-returns-2
 returns-2 c = simp (available-in (c .before .before), sym (floor-is (c .before)) ∙ not-true _ (c .if2 .taken))
-
-within-requires-3 : tie.Need-within-requires-3
-within-requires-3 c κs = search needs
 
 returns-3 : tie.Need-returns-3
 returns-3 c = simp (available-in (c .before .before .before), floor-in (c .before)) (dispatch-is c)
 
 pub output-good-spec : {M : Type 1} → statement M
 output-good-spec =
-    tie.close
-    (tie.spec within-requires returns within-requires-2 returns-2 within-requires-3 returns-3)
+    tie.close (tie.spec (λ c κs. search needs) returns (λ c κs. search needs) returns-2 (λ c κs. search needs) returns-3)

@@ -36,39 +36,12 @@ loop-holds : tie.Need-loop-holds Inv-loop μ-loop
 unfolding allTo
 loop-holds c = (omega arith, refl)
 
-mul-output-good : tie.Need-mul-output-good Inv-loop μ-loop
-mul-output-good c = search needs
-
-shared-slice-copy-out-output-good : tie.Need-shared-slice-copy-out-output-good Inv-loop μ-loop
-shared-slice-copy-out-output-good c = search needs
-
-mul-output-good-2 : tie.Need-mul-output-good-2 Inv-loop μ-loop
-mul-output-good-2 c = search needs
-
-shared-slice-copy-out-output-good-2 : tie.Need-shared-slice-copy-out-output-good-2 Inv-loop μ-loop
-shared-slice-copy-out-output-good-2 c = search needs
-
-mul-output-good-3 : tie.Need-mul-output-good-3 Inv-loop μ-loop
-mul-output-good-3 c = search needs
-
-shared-slice-copy-out-output-good-3 : tie.Need-shared-slice-copy-out-output-good-3 Inv-loop μ-loop
-shared-slice-copy-out-output-good-3 c = search needs
-
-output-good-requires : tie.Need-output-good-requires Inv-loop μ-loop
-output-good-requires c κs = search needs
-
 returns : tie.Need-returns Inv-loop μ-loop
 unfolding outputsGood
 returns c =
     let l = c .before .before .before .before .before .before in
     let s = l .before in
     sym (all-fails (λ k. outputGood (cell (s .args .available .now) k) (cell (s .args .floor .now) k) (cell (s .args .dispatch .now) k)) (s .args .n) (l .loop .r) (omega arith) (sym (is (c .before)) ∙ not-true _ (c .if1 .taken)))
-
-add-r : tie.Need-add-r Inv-loop μ-loop
-add-r c = search needs
-
-loop-less : tie.Need-loop-less Inv-loop μ-loop
-loop-less c = search needs
 
 loop-again : tie.Need-loop-again Inv-loop μ-loop
 loop-again c =
@@ -85,20 +58,5 @@ returns-2 c =
 
 pub outputs-good-spec : {M : Type 1} → statement M
 outputs-good-spec =
-    tie.close
-    (tie.spec
-    Inv-loop
-    μ-loop
-    loop-holds
-    mul-output-good
-    shared-slice-copy-out-output-good
-    mul-output-good-2
-    shared-slice-copy-out-output-good-2
-    mul-output-good-3
-    shared-slice-copy-out-output-good-3
-    output-good-requires
-    returns
-    add-r
-    loop-less
-    loop-again
-    returns-2)
+    tie.close (tie.spec Inv-loop μ-loop loop-holds (λ c. search needs) (λ c. search needs) (λ c. search needs) (λ c. search needs) (λ c. search needs)
+    (λ c. search needs) (λ c κs. search needs) returns (λ c. search needs) (λ c. search needs) loop-again returns-2)

@@ -29,43 +29,19 @@ parameter-is c =
 parameter-in : (c : tie.Else3) → inRange (pos 0) (pos 100) (c .before .before .before .before .before .before .args .parameter) ≡ true
 parameter-in c = sym (parameter-is (c .before)) ∙ not-false _ (c .if3 .left)
 
-all-within-requires : tie.Need-all-within-requires
-all-within-requires c κs = search needs
-
 returns : tie.Need-returns
 returns c = simp (shadow-off c)
-
-sub-all-within : tie.Need-sub-all-within
-sub-all-within c = search needs
-
-all-within-requires-2 : tie.Need-all-within-requires-2
-all-within-requires-2 c κs = search needs
 
 returns-2 : tie.Need-returns-2
 returns-2 c = simp (shadow-in (c .before .before), sym (c .before .all-within2 .ensures) ∙ not-true _ (c .if2 .taken))
 
-within-requires : tie.Need-within-requires
-within-requires c κs = search needs
-
 returns-3 : tie.Need-returns-3
 returns-3 c = simp (shadow-in (c .before .before .before .before), lmp-in (c .before .before), sym (parameter-is (c .before)) ∙ not-true _ (c .if3 .taken))
-
-factors-good-requires : tie.Need-factors-good-requires
-factors-good-requires c κs = search needs
 
 returns-4 : tie.Need-returns-4
 returns-4 c = simp (shadow-in (c .before .before .before .before .before), lmp-in (c .before .before .before), parameter-in (c .before)) (c .factors-good .ensures)
 
 pub ranges-good-spec : {M : Type 1} → statement M
 ranges-good-spec =
-    tie.close
-    (tie.spec
-    all-within-requires
-    returns
-    sub-all-within
-    all-within-requires-2
-    returns-2
-    within-requires
-    returns-3
-    factors-good-requires
-    returns-4)
+    tie.close (tie.spec (λ c κs. search needs) returns (λ c. search needs) (λ c κs. search needs) returns-2 (λ c κs. search needs) returns-3
+    (λ c κs. search needs) returns-4)

@@ -38,27 +38,12 @@ loop-holds c =
     let fh = toZ-ofZ w64 (c .args .hi) (c .fits .hi) in
     (c .pre .0, rw (fl, fh) (c .pre .1 .1))
 
-mul-within : tie.Need-mul-within Inv-loop μ-loop
-mul-within c = search needs
-
-shared-slice-copy-out-within : tie.Need-shared-slice-copy-out-within Inv-loop μ-loop
-shared-slice-copy-out-within c = search needs
-
-within-requires : tie.Need-within-requires Inv-loop μ-loop
-within-requires c κs = search needs
-
 returns : tie.Need-returns Inv-loop μ-loop
 unfolding allWithin
 returns c =
     let s = c .before .before .before .before .before in
     let i = c .before .before .before .before .loop .i in
     sym (all-fails (λ k. inRange (s .args .lo) (s .args .hi) (cell (s .args .numbers .now) k)) (s .args .n) i (omega arith) (sym (is (c .before)) ∙ not-true _ (c .if1 .taken)))
-
-add-i : tie.Need-add-i Inv-loop μ-loop
-add-i c = search needs
-
-loop-less : tie.Need-loop-less Inv-loop μ-loop
-loop-less c = search needs
 
 loop-again : tie.Need-loop-again Inv-loop μ-loop
 loop-again c =
@@ -80,16 +65,5 @@ returns-2 c =
 
 pub rest-within-spec : {M : Type 1} → statement M
 rest-within-spec =
-    tie.close
-    (tie.spec
-    Inv-loop
-    μ-loop
-    loop-holds
-    mul-within
-    shared-slice-copy-out-within
-    within-requires
-    returns
-    add-i
-    loop-less
-    loop-again
-    returns-2)
+    tie.close (tie.spec Inv-loop μ-loop loop-holds (λ c. search needs) (λ c. search needs) (λ c κs. search needs) returns (λ c. search needs)
+    (λ c. search needs) loop-again returns-2)

@@ -19,24 +19,6 @@ returns c =
     let a = c .before .args in
     row-past (drop (a .at) (a .factors .now)) (a .m) (simp length-drop (omega arith))
 
-sub-left : tie.Need-sub-left
-sub-left c = search needs
-
-mul-all-within : tie.Need-mul-all-within
-mul-all-within c = search needs
-
-sub-all-within : tie.Need-sub-all-within
-sub-all-within c = search needs
-
-part-all-within-start : tie.Need-part-all-within-start
-part-all-within-start c = search needs
-
-part-all-within-end : tie.Need-part-all-within-end
-part-all-within-end c = search needs
-
-sub-all-within-2 : tie.Need-sub-all-within-2
-sub-all-within-2 c = search needs
-
 all-within-requires : tie.Need-all-within-requires
 all-within-requires c κs = simp (length-take, length-drop) (omega (arith, held-is (c .before)))
 
@@ -51,14 +33,5 @@ returns-2 c =
 
 pub row-good-spec : {M : Type 1} → statement M
 row-good-spec =
-    tie.close
-    (tie.spec
-    returns
-    sub-left
-    mul-all-within
-    sub-all-within
-    part-all-within-start
-    part-all-within-end
-    sub-all-within-2
-    all-within-requires
-    returns-2)
+    tie.close (tie.spec returns (λ c. search needs) (λ c. search needs) (λ c. search needs) (λ c. search needs) (λ c. search needs)
+    (λ c. search needs) all-within-requires returns-2)

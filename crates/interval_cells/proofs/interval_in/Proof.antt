@@ -13,24 +13,6 @@ use Rattle.interval_cells.proofs.interval_in.Tie as tie
 by-lists : {n m : ℕ} {s s' l l' d d' a a' f f' t t' : List ℤ} {p p' : ℤ} → s ≡ s' → l ≡ l' → d ≡ d' → a ≡ a' → f ≡ f' → t ≡ t' → p ≡ p' → intervalOf n s m l d a f t p ≡ intervalOf n s' m l' d' a' f' t' p'
 by-lists p q r t u v w = cc
 
-shadow-in-requires : tie.Need-shadow-in-requires
-shadow-in-requires c κs = search needs
-
-outputs-in-requires : tie.Need-outputs-in-requires
-outputs-in-requires c κs = search needs
-
-outputs-in-requires-2 : tie.Need-outputs-in-requires-2
-outputs-in-requires-2 c κs = search needs
-
-outputs-in-requires-3 : tie.Need-outputs-in-requires-3
-outputs-in-requires-3 c κs = search needs
-
-outputs-in-requires-4 : tie.Need-outputs-in-requires-4
-outputs-in-requires-4 c κs = search needs
-
-factors-in-requires : tie.Need-factors-in-requires
-factors-in-requires c κs = search needs
-
 returns : tie.Need-returns
 unfolding intervalIn
 returns c =
@@ -44,12 +26,5 @@ returns c =
 
 pub interval-in-spec : {M : Type 1} → statement M
 interval-in-spec =
-    tie.close
-    (tie.spec
-    shadow-in-requires
-    outputs-in-requires
-    outputs-in-requires-2
-    outputs-in-requires-3
-    outputs-in-requires-4
-    factors-in-requires
-    returns)
+    tie.close (tie.spec (λ c κs. search needs) (λ c κs. search needs) (λ c κs. search needs) (λ c κs. search needs) (λ c κs. search needs)
+    (λ c κs. search needs) returns)

@@ -12,21 +12,6 @@ use Rattle.interval_part.proofs.ReadLaws.{parameter-missing, parameter-
 use Rattle.interval_part.proofs.parameter_at.Statement.{statement}
 use Rattle.interval_part.proofs.parameter_at.Tie as tie
 
-slice-aggregate-line-is : tie.Need-slice-aggregate-line-is
-slice-aggregate-line-is c = search needs
-
-line-is-requires : tie.Need-line-is-requires
-line-is-requires c κs = search needs
-
-enum-known-next : tie.Need-enum-known-next
-enum-known-next c = search needs
-
-enum-told : tie.Need-enum-told
-enum-told c = search needs
-
-value-at-requires : tie.Need-value-at-requires
-value-at-requires c κs = search needs
-
 returns : tie.Need-returns
 returns c =
     let l = c .before .before .before in
@@ -35,9 +20,6 @@ returns c =
           ∙ sym (parameter-there (a .n) (lines (drop (a .at) (a .s .now))) (a .n + 1) (not-headed "-\n" (found (pos 0)) (a .n) (a .s .now) (a .at) refl (sym (c .before .enum-told .given .1) ∙ l .line-is .ensures))),
       c .value-at .ensures .1,
     )
-
-add-t9 : tie.Need-add-t9
-add-t9 c = search needs
 
 returns-2 : tie.Need-returns-2
 returns-2 c =
@@ -52,13 +34,5 @@ returns-2 c =
 
 pub parameter-at-spec : {M : Type 1} → statement M
 parameter-at-spec =
-    tie.close
-    (tie.spec
-    slice-aggregate-line-is
-    line-is-requires
-    enum-known-next
-    enum-told
-    value-at-requires
-    returns
-    add-t9
-    returns-2)
+    tie.close (tie.spec (λ c. search needs) (λ c κs. search needs) (λ c. search needs) (λ c. search needs) (λ c κs. search needs) returns
+    (λ c. search needs) returns-2)

@@ -149,27 +149,6 @@ used4 p z =
     (read-used s (lines3 k + 1) at (r .fault) (r .value) (r .line) (r .next) (due parameterOf (lines3 k + 1) (lines (drop at s))) (p .parameter-at .ensures .0) (rises-due parameterOf (lines3 k + 1) (lines (drop at s))) z (p .parameter-at .ensures .1)))
 
 -- ---- the needs
-at-most-requires : tie.Need-at-most-requires
-at-most-requires c κs = search needs
-
-slice-aggregate-line-is : tie.Need-slice-aggregate-line-is
-slice-aggregate-line-is c = search needs
-
-line-is-requires : tie.Need-line-is-requires
-line-is-requires c κs = search needs
-
-enum-known-at : tie.Need-enum-known-at
-enum-known-at c = search needs
-
-enum-told : tie.Need-enum-told
-enum-told c = search needs
-
-add-no-part : tie.Need-add-no-part
-add-no-part c = search needs
-
-no-part-requires : tie.Need-no-part-requires
-no-part-requires c κs = search needs
-
 returns : tie.Need-returns
 returns c =
     let l = c .before .before .before in
@@ -178,32 +157,11 @@ returns c =
       no-offset (c .no-part .result) (before a + 1) (c .no-part .ensures .0) (c .no-part .ensures .1) (λ z. omega arith) (offset a) _ (lines (drop (offset a) (text a))),
     )
 
-marks-at-requires : tie.Need-marks-at-requires
-marks-at-requires c κs = search needs
-
-add-line : tie.Need-add-line
-add-line c = search needs
-
 add-line-2 : tie.Need-add-line-2
 add-line-2 c = let h = small1 (c .before) in omega (arith, start1 (c .before) .before .before .good)
 
-slice-aggregate-line-is-2 : tie.Need-slice-aggregate-line-is-2
-slice-aggregate-line-is-2 c = search needs
-
-line-is-requires-2 : tie.Need-line-is-requires-2
-line-is-requires-2 c κs = search needs
-
-enum-known-at-2 : tie.Need-enum-known-at-2
-enum-known-at-2 c = search needs
-
-enum-told-2 : tie.Need-enum-told-2
-enum-told-2 c = search needs
-
 add-no-part-2 : tie.Need-add-no-part-2
 add-no-part-2 c = let k = c .before .before .before .before .before in let h = small1 k in omega (arith, start1 k .before .before .good)
-
-no-part-requires-2 : tie.Need-no-part-requires-2
-no-part-requires-2 c κs = search needs
 
 same-length : tie.Need-same-length
 same-length c = let k = c .before .before .before .before .before .before in kept-room (start1 k .before .before .args .shadow .now) (map (cell 1) (rows1 k)) (k .marks-at .ensures .1 .0)
@@ -217,32 +175,14 @@ returns-2 c =
       no-offset (c .no-part2 .result) (lines1 k + 1) (c .no-part2 .ensures .0) (c .no-part2 .ensures .1) (λ z. omega arith) (offset a) _ (lines (drop (offset a) (text a))),
     )
 
-outputs-at-requires : tie.Need-outputs-at-requires
-outputs-at-requires c κs = search needs
-
 add-line-3 : tie.Need-add-line-3
 add-line-3 c = let k = c .before .before .before .before in let h = small2 k in omega (arith, start2 k .before .before .good)
 
 add-line-4 : tie.Need-add-line-4
 add-line-4 c = let k = c .before .before .before .before in let h = small2 k in omega (arith, start2 k .before .before .good)
 
-slice-aggregate-line-is-3 : tie.Need-slice-aggregate-line-is-3
-slice-aggregate-line-is-3 c = search needs
-
-line-is-requires-3 : tie.Need-line-is-requires-3
-line-is-requires-3 c κs = search needs
-
-enum-known-at-3 : tie.Need-enum-known-at-3
-enum-known-at-3 c = search needs
-
-enum-told-3 : tie.Need-enum-told-3
-enum-told-3 c = search needs
-
 add-no-part-3 : tie.Need-add-no-part-3
 add-no-part-3 c = let k = c .before .before .before .before .before .before .before .before in let h = small2 k in omega (arith, start2 k .before .before .good)
-
-no-part-requires-3 : tie.Need-no-part-requires-3
-no-part-requires-3 c κs = search needs
 
 same-length-2 : tie.Need-same-length-2
 same-length-2 c = let k = first (c .before .before .before .before .before .before .before .before .before) in kept-room (start1 k .before .before .args .shadow .now) (map (cell 1) (rows1 k)) (k .marks-at .ensures .1 .0)
@@ -270,32 +210,14 @@ returns-3 c =
       no-offset (c .no-part3 .result) (lines2 k + 1) (c .no-part3 .ensures .0) (c .no-part3 .ensures .1) (λ z. omega arith) (offset a) _ (lines (drop (offset a) (text a))),
     )
 
-factors-into-requires : tie.Need-factors-into-requires
-factors-into-requires c κs = search needs
-
 add-line-5 : tie.Need-add-line-5
 add-line-5 c = let k = c .before in let h = small3 k in omega (arith, start3 k .before .before .good)
 
 add-line-6 : tie.Need-add-line-6
 add-line-6 c = let k = c .before .before in let h = small3 k in omega (arith, start3 k .before .before .good)
 
-slice-aggregate-line-is-4 : tie.Need-slice-aggregate-line-is-4
-slice-aggregate-line-is-4 c = search needs
-
-line-is-requires-4 : tie.Need-line-is-requires-4
-line-is-requires-4 c κs = search needs
-
-enum-known-at-4 : tie.Need-enum-known-at-4
-enum-known-at-4 c = search needs
-
-enum-told-4 : tie.Need-enum-told-4
-enum-told-4 c = search needs
-
 add-no-part-4 : tie.Need-add-no-part-4
 add-no-part-4 c = let k = c .before .before .before .before .before .before in let h = small3 k in omega (arith, start3 k .before .before .good)
-
-no-part-requires-4 : tie.Need-no-part-requires-4
-no-part-requires-4 c κs = search needs
 
 same-length-7 : tie.Need-same-length-7
 same-length-7 c = let k = first (second (c .before .before .before .before .before .before .before)) in kept-room (start1 k .before .before .args .shadow .now) (map (cell 1) (rows1 k)) (k .marks-at .ensures .1 .0)
@@ -332,9 +254,6 @@ add-parameter-at c = let h = small3 (third c) in omega (arith, start3 (third c) 
 
 parameter-at-requires : tie.Need-parameter-at-requires
 parameter-at-requires c κs = let h = small3 (third c) in omega arith
-
-no-part-requires-5 : tie.Need-no-part-requires-5
-no-part-requires-5 c κs = search needs
 
 same-length-13 : tie.Need-same-length-13
 same-length-13 c = let k = first (second (third (c .before .before .before))) in kept-room (start1 k .before .before .args .shadow .now) (map (cell 1) (rows1 k)) (k .marks-at .ensures .1 .0)
@@ -415,72 +334,12 @@ returns-6 c =
 
 pub part-at-spec : {M : Type 1} → statement M
 part-at-spec =
-    tie.close
-    (tie.spec
-    at-most-requires
-    slice-aggregate-line-is
-    line-is-requires
-    enum-known-at
-    enum-told
-    add-no-part
-    no-part-requires
-    returns
-    marks-at-requires
-    add-line
-    add-line-2
-    slice-aggregate-line-is-2
-    line-is-requires-2
-    enum-known-at-2
-    enum-told-2
-    add-no-part-2
-    no-part-requires-2
-    same-length
-    returns-2
-    outputs-at-requires
-    add-line-3
-    add-line-4
-    slice-aggregate-line-is-3
-    line-is-requires-3
-    enum-known-at-3
-    enum-told-3
-    add-no-part-3
-    no-part-requires-3
-    same-length-2
-    same-length-3
-    same-length-4
-    same-length-5
-    same-length-6
-    returns-3
-    factors-into-requires
-    add-line-5
-    add-line-6
-    slice-aggregate-line-is-4
-    line-is-requires-4
-    enum-known-at-4
-    enum-told-4
-    add-no-part-4
-    no-part-requires-4
-    same-length-7
-    same-length-8
-    same-length-9
-    same-length-10
-    same-length-11
-    same-length-12
-    returns-4
-    add-parameter-at
-    parameter-at-requires
-    no-part-requires-5
-    same-length-13
-    same-length-14
-    same-length-15
-    same-length-16
-    same-length-17
-    same-length-18
-    returns-5
-    same-length-19
-    same-length-20
-    same-length-21
-    same-length-22
-    same-length-23
-    same-length-24
-    returns-6)
+    tie.close (tie.spec (λ c κs. search needs) (λ c. search needs) (λ c κs. search needs) (λ c. search needs) (λ c. search needs) (λ c. search needs)
+    (λ c κs. search needs) returns (λ c κs. search needs) (λ c. search needs) add-line-2 (λ c. search needs) (λ c κs. search needs)
+    (λ c. search needs) (λ c. search needs) add-no-part-2 (λ c κs. search needs) same-length returns-2 (λ c κs. search needs) add-line-3 add-line-4
+    (λ c. search needs) (λ c κs. search needs) (λ c. search needs) (λ c. search needs) add-no-part-3 (λ c κs. search needs) same-length-2
+    same-length-3 same-length-4 same-length-5 same-length-6 returns-3 (λ c κs. search needs) add-line-5 add-line-6 (λ c. search needs)
+    (λ c κs. search needs) (λ c. search needs) (λ c. search needs) add-no-part-4 (λ c κs. search needs) same-length-7 same-length-8 same-length-9
+    same-length-10 same-length-11 same-length-12 returns-4 add-parameter-at parameter-at-requires (λ c κs. search needs) same-length-13 same-length-14
+    same-length-15 same-length-16 same-length-17 same-length-18 returns-5 same-length-19 same-length-20 same-length-21 same-length-22 same-length-23
+    same-length-24 returns-6)

@@ -38,26 +38,8 @@ room p = length (start p .args .factors .now)
 abbrev due : tie.After-part-at → Reading Interval
 due p = readInterval (before p) (lines (drop (start p .args .at) (text p)))
 
-slice-aggregate-part-at : tie.Need-slice-aggregate-part-at
-slice-aggregate-part-at c = search needs
-
-slice-aggregate-part-at-2 : tie.Need-slice-aggregate-part-at-2
-slice-aggregate-part-at-2 c = search needs
-
-slice-aggregate-part-at-3 : tie.Need-slice-aggregate-part-at-3
-slice-aggregate-part-at-3 c = search needs
-
-slice-aggregate-part-at-4 : tie.Need-slice-aggregate-part-at-4
-slice-aggregate-part-at-4 c = search needs
-
-slice-aggregate-part-at-5 : tie.Need-slice-aggregate-part-at-5
-slice-aggregate-part-at-5 c = search needs
-
 part-at-requires : tie.Need-part-at-requires
 part-at-requires c κs = let r = c .before .before .before .before .before .before .before .pre in (refl, ((refl, (refl, (refl, refl))), (r .0, r .1 .1)))
-
-same-length : tie.Need-same-length
-same-length c = search needs
 
 returns : tie.Need-returns
 returns c =
@@ -67,18 +49,6 @@ returns c =
       sym (ap (takenBy (a .state .now) (a .at) (before p) (lines (drop (a .at) (text p)))) q),
       (sym (ap (stateBy (a .state .now)) q), (sym (ap (verdictsBy (a .state .now) (a .verdicts .now)) q), sym (ap (leftBy (a .state .now)) q))),
     )
-
-take-into-requires : tie.Need-take-into-requires
-take-into-requires c κs = search needs
-
-outcome-number-requires : tie.Need-outcome-number-requires
-outcome-number-requires c κs = search needs
-
-same-length-2 : tie.Need-same-length-2
-same-length-2 c = search needs
-
-same-length-3 : tie.Need-same-length-3
-same-length-3 c = search needs
 
 abbrev reads : tie.After-take-into → tie.After-part-at
 reads t = t .before .before .before .before .before .before .before .before .before .before .before .before .before .before .before .before .before
@@ -145,12 +115,6 @@ returns-2 c =
       ),
     )
 
-same-length-4 : tie.Need-same-length-4
-same-length-4 c = search needs
-
-same-length-5 : tie.Need-same-length-5
-same-length-5 c = search needs
-
 returns-3 : tie.Need-returns-3
 returns-3 c =
     let o = c .before in
@@ -175,21 +139,6 @@ returns-3 c =
 
 pub part-into-spec : {M : Type 1} → statement M
 part-into-spec =
-    tie.close
-    (tie.spec
-    slice-aggregate-part-at
-    slice-aggregate-part-at-2
-    slice-aggregate-part-at-3
-    slice-aggregate-part-at-4
-    slice-aggregate-part-at-5
-    part-at-requires
-    same-length
-    returns
-    take-into-requires
-    outcome-number-requires
-    same-length-2
-    same-length-3
-    returns-2
-    same-length-4
-    same-length-5
-    returns-3)
+    tie.close (tie.spec (λ c. search needs) (λ c. search needs) (λ c. search needs) (λ c. search needs) (λ c. search needs) part-at-requires
+    (λ c. search needs) returns (λ c κs. search needs) (λ c κs. search needs) (λ c. search needs) (λ c. search needs) returns-2 (λ c. search needs)
+    (λ c. search needs) returns-3)

@@ -12,55 +12,42 @@ use Rattle.rules_state.specs.States.{marketIn}
 use Rattle.interval_part.proofs.part_taken.Statement.{statement}
 use Rattle.interval_part.proofs.part_taken.Tie as tie
 
--- the factors of few resources have few cells
-few-cells : (l : List ℤ) (n : ℕ) → n ≡ natOf (cellAt l marketFrom) → n ≤ 4 → min (marketIn l .resources) 64 * 32 ≤ 128
+-- the factors of k resources have 32 cells for each
+few-cells : (l : List ℤ) (n k : ℕ) → n ≡ natOf (cellAt l marketFrom) → n ≤ k → min (marketIn l .resources) 64 * 32 ≤ k * 32
 unfolding marketIn
-few-cells l n e h = omega arith
+few-cells l n k e h = omega arith
 
 -- those of any number, all
 all-cells : (n : ℕ) → min n 64 * 32 ≤ 2048
 all-cells n = omega arith
 
-whole-at-requires : tie.Need-whole-at-requires
-whole-at-requires c κs = search needs
-
-slice-aggregate-part-into : tie.Need-slice-aggregate-part-into
-slice-aggregate-part-into c = search needs
+-- the hour's cells
+abbrev hour : tie.After-whole-at → List ℤ
+hour w = w .before .before .before .args .state .now
 
 part-into-requires : tie.Need-part-into-requires
 part-into-requires c κs =
     let t = c .before .before .before in
     let w = t .before in
-    (refl, (few-cells (w .before .before .before .args .state .now) (w .whole-at .result) (w .whole-at .ensures) (t .if1 .taken), omega arith))
-
-same-length : tie.Need-same-length
-same-length c = search needs
-
-returns : tie.Need-returns
-returns c = search needs
-
-slice-aggregate-part-into-2 : tie.Need-slice-aggregate-part-into-2
-slice-aggregate-part-into-2 c = search needs
+    (refl, (few-cells (hour w) (w .whole-at .result) 1 (w .whole-at .ensures) (t .if1 .taken), omega arith))
 
 part-into-requires-2 : tie.Need-part-into-requires-2
-part-into-requires-2 c κs = (refl, (all-cells (marketIn (c .before .before .before .before .before .before .before .args .state .now) .resources), omega arith))
+part-into-requires-2 c κs =
+    let t = c .before .before .before in
+    let w = t .before .before in
+    (refl, (few-cells (hour w) (w .whole-at .result) 8 (w .whole-at .ensures) (t .if2 .taken), omega arith))
 
-same-length-2 : tie.Need-same-length-2
-same-length-2 c = search needs
+part-into-requires-3 : tie.Need-part-into-requires-3
+part-into-requires-3 c κs =
+    let t = c .before .before .before in
+    let w = t .before .before .before in
+    (refl, (few-cells (hour w) (w .whole-at .result) 32 (w .whole-at .ensures) (t .if3 .taken), omega arith))
 
-returns-2 : tie.Need-returns-2
-returns-2 c = search needs
+part-into-requires-4 : tie.Need-part-into-requires-4
+part-into-requires-4 c κs = (refl, (all-cells (marketIn (hour (c .before .before .before .before .before .before)) .resources), omega arith))
 
 pub part-taken-spec : {M : Type 1} → statement M
 part-taken-spec =
-    tie.close
-    (tie.spec
-    whole-at-requires
-    slice-aggregate-part-into
-    part-into-requires
-    same-length
-    returns
-    slice-aggregate-part-into-2
-    part-into-requires-2
-    same-length-2
-    returns-2)
+    tie.close (tie.spec (λ c κs. search needs) (λ c. search needs) part-into-requires (λ c. search needs) (λ c. search needs) (λ c. search needs)
+    part-into-requires-2 (λ c. search needs) (λ c. search needs) (λ c. search needs) part-into-requires-3 (λ c. search needs) (λ c. search needs)
+    (λ c. search needs) part-into-requires-4 (λ c. search needs) (λ c. search needs))

@@ -17,16 +17,10 @@ use Rattle.interval_part.proofs.ReadLaws.{refuses-after, value-missing,
 use Rattle.interval_part.proofs.value_at.Statement.{statement}
 use Rattle.interval_part.proofs.value_at.Tie as tie
 
-row-of-requires : tie.Need-row-of-requires
-row-of-requires c κs = search needs
-
 -- the line that is read
 answers : (c : tie.After-row-of)
     → c .row-of .result ≡ asRow (c .before .before .args .at + length (line (drop (c .before .before .args .at) (c .before .before .args .s .now)))) (row 1 (line (drop (c .before .before .args .at) (c .before .before .args .s .now))))
 answers c = c .row-of .ensures ∙ row-in (λ o. o) (c .before .before .args .s .now) (c .before .before .args .at) 1 refl
-
-add-t7 : tie.Need-add-t7
-add-t7 c = search needs
 
 returns : tie.Need-returns
 returns c =
@@ -36,12 +30,6 @@ returns c =
           ∙ sym (value-missing (a .s .now) (a .at) (a .n) (not-held _ _ (r .row-of .result) (answers r) (not-true (r .row-of .result .ok) (c .if1 .taken)))),
       no-next (a .n + 1) (a .at) (0 - a .n) (lines (drop (a .at) (a .s .now))) (λ z. omega arith),
     )
-
-array-copy-out-t10 : tie.Need-array-copy-out-t10
-array-copy-out-t10 c = search needs
-
-add-t11 : tie.Need-add-t11
-add-t11 c = search needs
 
 returns-2 : tie.Need-returns-2
 returns-2 c =
@@ -54,4 +42,5 @@ returns-2 c =
     )
 
 pub value-at-spec : {M : Type 1} → statement M
-value-at-spec = tie.close (tie.spec row-of-requires add-t7 returns array-copy-out-t10 add-t11 returns-2)
+value-at-spec =
+    tie.close (tie.spec (λ c κs. search needs) (λ c. search needs) returns (λ c. search needs) (λ c. search needs) returns-2)

@@ -17,23 +17,11 @@ abbrev μ-loop : tie.MeasureT-loop
 loop-holds : tie.Need-loop-holds Inv-loop μ-loop
 loop-holds c = record { within = omega arith; long = refl; kept = refl; left = rw (add-zero (c .args .at)) }
 
-add-page : tie.Need-add-page Inv-loop μ-loop
-add-page c = search needs
-
 slice-read-page : tie.Need-slice-read-page Inv-loop μ-loop
 slice-read-page c = omega (arith, c .before .before .loop .inv .long)
 
-add-page-2 : tie.Need-add-page-2 Inv-loop μ-loop
-add-page-2 c = search needs
-
 slice-write-page : tie.Need-slice-write-page Inv-loop μ-loop
 slice-write-page c = omega (arith, c .before .before .loop .inv .long)
-
-add-k : tie.Need-add-k Inv-loop μ-loop
-add-k c = search needs
-
-loop-less : tie.Need-loop-less Inv-loop μ-loop
-loop-less c = search needs
 
 loop-again : tie.Need-loop-again Inv-loop μ-loop
 loop-again c =
@@ -52,17 +40,5 @@ returns c =
 
 pub copy-bytes-spec : {M : Type 1} → statement M
 copy-bytes-spec =
-    tie.close
-    (tie.spec
-    Inv-loop
-    μ-loop
-    loop-holds
-    add-page
-    slice-read-page
-    add-page-2
-    slice-write-page
-    add-k
-    loop-less
-    loop-again
-    same-length
-    returns)
+    tie.close (tie.spec Inv-loop μ-loop loop-holds (λ c. search needs) slice-read-page (λ c. search needs) slice-write-page (λ c. search needs)
+    (λ c. search needs) loop-again same-length returns)

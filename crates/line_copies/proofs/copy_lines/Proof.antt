@@ -52,18 +52,12 @@ source e = leb-true (start e .args .from + start e .args .n) (start e .args .at)
 fits : (e : tie.Else2) → start (e .before .before) .args .at + start (e .before .before) .args .n ≤ length (start (e .before .before) .args .page .now)
 fits e = leb-true (start (e .before .before) .args .at + start (e .before .before) .args .n) (length (start (e .before .before) .args .page .now)) (room e)
 
-has-room-requires : tie.Need-has-room-requires
-has-room-requires c κs = search needs
-
 returns : tie.Need-returns
 returns c =
     let h = c .before in
     let a = h .before .before .before .args in
     let e : leb (a .from + a .n) (a .at) ≡ false = sym (h .has-room .ensures) ∙ not-true (h .has-room .result) (c .if1 .taken) in
     none (a .page .now) (a .from) (a .at) (a .n) (a .widths .now) (a .base) (a .first) (ap (λ (b : Bool). b && leb (a .at + a .n) (length (a .page .now))) e)
-
-has-room-requires-2 : tie.Need-has-room-requires-2
-has-room-requires-2 c κs = search needs
 
 returns-2 : tie.Need-returns-2
 returns-2 c =
@@ -84,9 +78,6 @@ put-heads-requires c κs =
     let e = p .before .before in
     omega (arith, fits e, p .copy-bytes .kept .0)
 
-same-length : tie.Need-same-length
-same-length c = search needs
-
 returns-3 : tie.Need-returns-3
 returns-3 c =
     let h = c .before .before in
@@ -98,14 +89,5 @@ returns-3 c =
 
 pub copy-lines-spec : {M : Type 1} → statement M
 copy-lines-spec =
-    tie.close
-    (tie.spec
-    has-room-requires
-    returns
-    has-room-requires-2
-    returns-2
-    add-next
-    copy-bytes-requires
-    put-heads-requires
-    same-length
-    returns-3)
+    tie.close (tie.spec (λ c κs. search needs) returns (λ c κs. search needs) returns-2 add-next copy-bytes-requires put-heads-requires
+    (λ c. search needs) returns-3)

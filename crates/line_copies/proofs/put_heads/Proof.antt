@@ -30,26 +30,14 @@ returns c =
     let a = l .before .args in
     heading-past (a .page .now) (a .at) (a .n) (a .widths .now) (a .base) (a .first) (l .before .pre) (l .loop .page) (l .loop .p) (l .loop .k) (l .loop .inv) (c .if1 .taken)
 
-add-page : tie.Need-add-page Inv-loop μ-loop
-add-page c = search needs
-
 slice-write-page : tie.Need-slice-write-page Inv-loop μ-loop
 slice-write-page c = let l = c .before .before in omega (arith, c .if1 .left, l .before .pre, long l)
-
-shared-slice-read-p : tie.Need-shared-slice-read-p Inv-loop μ-loop
-shared-slice-read-p c = search needs
 
 cast-p : tie.Need-cast-p Inv-loop μ-loop
 cast-p c = omega (arith, c .shared-slice-known .given (c .before .before .before .loop .k))
 
 add-p : tie.Need-add-p Inv-loop μ-loop
 add-p c = let l = c .before .before .before in omega (arith, c .shared-slice-known .given (l .loop .k), c .before .if1 .left, l .before .pre, l .before)
-
-add-k : tie.Need-add-k Inv-loop μ-loop
-add-k c = search needs
-
-loop-less : tie.Need-loop-less Inv-loop μ-loop
-loop-less c = search needs
 
 loop-again : tie.Need-loop-again Inv-loop μ-loop
 loop-again c =
@@ -69,20 +57,5 @@ returns-2 c =
 
 pub put-heads-spec : {M : Type 1} → statement M
 put-heads-spec =
-    tie.close
-    (tie.spec
-    Inv-loop
-    μ-loop
-    loop-holds
-    same-length
-    returns
-    add-page
-    slice-write-page
-    shared-slice-read-p
-    cast-p
-    add-p
-    add-k
-    loop-less
-    loop-again
-    same-length-2
-    returns-2)
+    tie.close (tie.spec Inv-loop μ-loop loop-holds same-length returns (λ c. search needs) slice-write-page (λ c. search needs) cast-p add-p
+    (λ c. search needs) (λ c. search needs) loop-again same-length-2 returns-2)

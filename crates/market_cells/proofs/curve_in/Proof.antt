@@ -32,51 +32,9 @@ by-cells e f = cc
 by-fields : {s s' n n' : ℕ} {l l' : List Step} → s ≡ s' → n ≡ n' → l ≡ l' → _≡_ {A = Curve} (record { start = s; count = n; steps = l }) (record { start = s'; count = n'; steps = l' })
 by-fields e f g = cc
 
-whole-at-requires : tie.Need-whole-at-requires Inv-loop μ-loop
-whole-at-requires c κs = search needs
-
-add-whole-at : tie.Need-add-whole-at Inv-loop μ-loop
-add-whole-at c = search needs
-
-whole-at-requires-2 : tie.Need-whole-at-requires-2 Inv-loop μ-loop
-whole-at-requires-2 c κs = search needs
-
 loop-holds : tie.Need-loop-holds Inv-loop μ-loop
 unfolding padded listed
 loop-holds c = (omega arith, refl)
-
-add-whole-at-2 : tie.Need-add-whole-at-2 Inv-loop μ-loop
-add-whole-at-2 c = search needs
-
-add-whole-at-3 : tie.Need-add-whole-at-3 Inv-loop μ-loop
-add-whole-at-3 c = search needs
-
-whole-at-requires-3 : tie.Need-whole-at-requires-3 Inv-loop μ-loop
-whole-at-requires-3 c κs = search needs
-
-add-cell-at : tie.Need-add-cell-at Inv-loop μ-loop
-add-cell-at c = search needs
-
-add-cell-at-2 : tie.Need-add-cell-at-2 Inv-loop μ-loop
-add-cell-at-2 c = search needs
-
-add-cell-at-3 : tie.Need-add-cell-at-3 Inv-loop μ-loop
-add-cell-at-3 c = search needs
-
-cell-at-requires : tie.Need-cell-at-requires Inv-loop μ-loop
-cell-at-requires c κs = search needs
-
-mul-steps : tie.Need-mul-steps Inv-loop μ-loop
-mul-steps c = search needs
-
-array-set-from-steps : tie.Need-array-set-from-steps Inv-loop μ-loop
-array-set-from-steps c = search needs
-
-add-k : tie.Need-add-k Inv-loop μ-loop
-add-k c = search needs
-
-loop-less : tie.Need-loop-less Inv-loop μ-loop
-loop-less c = search needs
 
 loop-again : tie.Need-loop-again Inv-loop μ-loop
 loop-again c =
@@ -99,24 +57,6 @@ returns c =
 
 pub curve-in-spec : {M : Type 1} → statement M
 curve-in-spec =
-    tie.close
-    (tie.spec
-    Inv-loop
-    μ-loop
-    whole-at-requires
-    add-whole-at
-    whole-at-requires-2
-    loop-holds
-    add-whole-at-2
-    add-whole-at-3
-    whole-at-requires-3
-    add-cell-at
-    add-cell-at-2
-    add-cell-at-3
-    cell-at-requires
-    mul-steps
-    array-set-from-steps
-    add-k
-    loop-less
-    loop-again
-    returns)
+    tie.close (tie.spec Inv-loop μ-loop (λ c κs. search needs) (λ c. search needs) (λ c κs. search needs) loop-holds (λ c. search needs)
+    (λ c. search needs) (λ c κs. search needs) (λ c. search needs) (λ c. search needs) (λ c. search needs) (λ c κs. search needs) (λ c. search needs)
+    (λ c. search needs) (λ c. search needs) (λ c. search needs) loop-again returns)

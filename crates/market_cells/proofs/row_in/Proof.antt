@@ -15,30 +15,12 @@ use Rattle.market_cells.proofs.row_in.Tie as tie
 by-fields : {b b' d d' : Curve} → b ≡ b' → d ≡ d' → _≡_ {A = Row} (record { bid = b; default = d }) (record { bid = b'; default = d' })
 by-fields e f = cc
 
-blank-row-requires : tie.Need-blank-row-requires
-blank-row-requires c κs = search needs
-
 returns : tie.Need-returns
 unfolding rowsIn
 returns c =
     let s = c .before in
     let a = s .before .args in
     c .blank-row .ensures ∙ sym (List·getD-eq-default (rowsIn (a .state .now)) blankRow (omega (arith, s .if1 .taken, listed-length (rowIn (a .state .now)) mostResources)))
-
-mul-from : tie.Need-mul-from
-mul-from c = search needs
-
-add-from : tie.Need-add-from
-add-from c = search needs
-
-curve-in-requires : tie.Need-curve-in-requires
-curve-in-requires c κs = search needs
-
-add-curve-in : tie.Need-add-curve-in
-add-curve-in c = search needs
-
-curve-in-requires-2 : tie.Need-curve-in-requires-2
-curve-in-requires-2 c κs = search needs
 
 returns-2 : tie.Need-returns-2
 unfolding rowsIn rowIn
@@ -49,13 +31,5 @@ returns-2 c =
 
 pub row-in-spec : {M : Type 1} → statement M
 row-in-spec =
-    tie.close
-    (tie.spec
-    blank-row-requires
-    returns
-    mul-from
-    add-from
-    curve-in-requires
-    add-curve-in
-    curve-in-requires-2
-    returns-2)
+    tie.close (tie.spec (λ c κs. search needs) returns (λ c. search needs) (λ c. search needs) (λ c κs. search needs) (λ c. search needs)
+    (λ c κs. search needs) returns-2)

@@ -1,5 +1,5 @@
 -- `mitigated_cells::cap` meets its contract. Assumes nothing.
-use mathlib.Core.Path.{_≡_, sym, ap, _∙_}
+use mathlib.Core.Path.{sym, ap, _∙_}
 use mir.Syntax.{w64}
 use mir.Val.{ofZ}
 use lib.IntN.{ℤ, pos}
@@ -18,12 +18,6 @@ returns c =
     came (s .args .b) (s .fits .b .sfits)
     ∙ ap (λ (m : ℤ). capped (floorOf m (s .args .floor) .price) (s .args .b) (s .args .d)) (sym (bits-same (s .args .mark) (pos 0) (s .fits .mark) (pos-fits 0 tt) (c .if1 .taken)))
 
-max-requires : tie.Need-max-requires
-max-requires c κs = search needs
-
-min-requires : tie.Need-min-requires
-min-requires c κs = search needs
-
 returns-2 : tie.Need-returns-2
 returns-2 c =
     let m = c .before in
@@ -39,4 +33,4 @@ returns-2 c =
     fr ∙ r ∙ ap (λ (x : Floor). capped (x .price) (s .args .b) (s .args .d)) (sym (cut-mark (s .args .mark) (s .args .floor) (λ x. e .if1 .left (ap (ofZ w64) x))))
 
 pub cap-spec : {M : Type 1} → statement M
-cap-spec = tie.close (tie.spec returns max-requires min-requires returns-2)
+cap-spec = tie.close (tie.spec returns (λ c κs. search needs) (λ c κs. search needs) returns-2)

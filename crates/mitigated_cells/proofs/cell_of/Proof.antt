@@ -8,9 +8,6 @@ use lib.IntN.{pos}
 use Rattle.mitigated_cells.proofs.cell_of.Statement.{statement}
 use Rattle.mitigated_cells.proofs.cell_of.Tie as tie
 
-cast-result : tie.Need-cast-result
-cast-result c = search needs
-
 returns : tie.Need-returns
 returns c = toZ-pos w64 {n = c .before .args .n} (omega arith) ∙ ap pos (omega arith)
 
@@ -18,4 +15,4 @@ returns-2 : tie.Need-returns-2
 returns-2 c = ap pos (omega arith)
 
 pub cell-of-spec : {M : Type 1} → statement M
-cell-of-spec = tie.close (tie.spec cast-result returns returns-2)
+cell-of-spec = tie.close (tie.spec (λ c. search needs) returns returns-2)

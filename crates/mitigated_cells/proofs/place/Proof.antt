@@ -1,5 +1,4 @@
 -- `mitigated_cells::place` meets its contract. Assumes nothing.
-use mathlib.Core.Bool.{true, false}
 use mathlib.Core.Path.{_≡_, sym, ap, _∙_}
 use native.Mathlib.Omega.{arith}
 use mir.Syntax.{w64}
@@ -9,7 +8,6 @@ use Rattle.rules_number.specs.Order.{eqZ}
 use Rattle.rules_number.proofs.Kit.{bits-same}
 use Rattle.rules_number.proofs.OrderLaws.{eqZ-same}
 use Rattle.rules_number.proofs.OverLaws.{never}
-use borrow.Author.Needs.{needs}
 use Rattle.mitigated_cells.proofs.place.Statement.{statement}
 use Rattle.mitigated_cells.proofs.place.Tie as tie
 

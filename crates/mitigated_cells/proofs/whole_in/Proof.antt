@@ -6,14 +6,8 @@ use Rattle.rules_number.proofs.Kit.{came}
 use Rattle.mitigated_cells.proofs.whole_in.Statement.{statement}
 use Rattle.mitigated_cells.proofs.whole_in.Tie as tie
 
-cell-in-requires : tie.Need-cell-in-requires
-cell-in-requires c κs = search needs
-
-whole-requires : tie.Need-whole-requires
-whole-requires c κs = search needs
-
 returns : tie.Need-returns
 returns c = let e = c .before .cell-in in c .whole .ensures ∙ ap natOf (came (e .result) (e .ok) ∙ e .ensures)
 
 pub whole-in-spec : {M : Type 1} → statement M
-whole-in-spec = tie.close (tie.spec cell-in-requires whole-requires returns)
+whole-in-spec = tie.close (tie.spec (λ c κs. search needs) (λ c κs. search needs) returns)

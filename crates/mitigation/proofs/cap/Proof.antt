@@ -7,18 +7,6 @@ use borrow.Author.Needs.{needs}
 use Rattle.mitigation.proofs.cap.Statement.{statement}
 use Rattle.mitigation.proofs.cap.Tie as tie
 
-enum-told : tie.Need-enum-told
-enum-told c = search needs
-
-enum-known-floor : tie.Need-enum-known-floor
-enum-known-floor c = search needs
-
-max-requires : tie.Need-max-requires
-max-requires c κs = search needs
-
-min-requires : tie.Need-min-requires
-min-requires c κs = search needs
-
 returns : tie.Need-returns
 returns c = simp (c .enum-told .given .1, toZ-ofZ w64 (c .before .before .args .b) (c .before .before .fits .b))
 
@@ -37,4 +25,4 @@ returns-2 c =
 
 pub cap-spec : {M : Type 1} → statement M
 cap-spec =
-    tie.close (tie.spec enum-told enum-known-floor max-requires min-requires returns returns-2)
+    tie.close (tie.spec (λ c. search needs) (λ c. search needs) (λ c κs. search needs) (λ c κs. search needs) returns returns-2)

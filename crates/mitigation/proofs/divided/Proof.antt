@@ -1,9 +1,10 @@
 -- `mitigation::divided` meets its contract. Assumes nothing.
-use mathlib.Core.Path.{_∙_}
+use mathlib.Core.Path.{_≡_, _∙_}
 use Prim.Native.Nat.{_+_, _-_, _<_}
 use native.Mathlib.Omega.{arith}
-use Rattle.rules_number.proofs.Kit.{came}
+use Rattle.rules_number.proofs.Kit.{rd, came}
 use Rattle.rules_number.proofs.OverLaws.{taken-at}
+use lib.IntN.{ℤ}
 use lib.ListN.{length, getD}
 use Rattle.rules_curve.specs.Curves.{stepsOf, bidSteps, blankStep}
 use Rattle.rules_mitigation.specs.Mitigation.{capped, mostMitigatedSteps}
@@ -19,35 +20,11 @@ Inv-loop floor bid default nb nd start steps₀ at₀ i₀ j₀ n₀ steps at i 
 abbrev μ-loop : tie.MeasureT-loop
 μ-loop floor bid default nb nd start steps₀ at₀ i₀ j₀ n₀ steps at i j n = (nb - i) + (nd - j)
 
-bid-used-requires : tie.Need-bid-used-requires Inv-loop μ-loop
-bid-used-requires c κs = search needs
-
-used-requires : tie.Need-used-requires Inv-loop μ-loop
-used-requires c κs = search needs
-
 loop-holds : tie.Need-loop-holds Inv-loop μ-loop
 loop-holds c = walked-start _ _ _ _
 
 returns : tie.Need-returns Inv-loop μ-loop
 returns c = walked-default-end _ _ _ _ _ _ _ _ _ (c .before .before .loop .inv) (omega arith)
-
-mul-b : tie.Need-mul-b Inv-loop μ-loop
-mul-b c = omega arith
-
-element-copy-out-b : tie.Need-element-copy-out-b Inv-loop μ-loop
-element-copy-out-b c = omega arith
-
-mul-d : tie.Need-mul-d Inv-loop μ-loop
-mul-d c = omega arith
-
-element-copy-out-d : tie.Need-element-copy-out-d Inv-loop μ-loop
-element-copy-out-d c = omega arith
-
-add-j : tie.Need-add-j Inv-loop μ-loop
-add-j c = omega arith
-
-loop-less : tie.Need-loop-less Inv-loop μ-loop
-loop-less c = omega arith
 
 loop-again : tie.Need-loop-again Inv-loop μ-loop
 loop-again c =
@@ -57,100 +34,56 @@ loop-again c =
     let hj : l .loop .j < length (stepsOf (s .args .t2)) = omega arith in
     walked-skip _ _ _ _ _ _ _ _ _ blankStep _ _ (l .loop .inv) hi hj (bid-at (s .args .t1) _ hi) (taken-at (s .args .t2 .count) (s .args .t2 .steps) _ blankStep hj) (c .if2 .taken)
 
-cap-requires : tie.Need-cap-requires Inv-loop μ-loop
-cap-requires c κs = search needs
+-- a part at its cut price: where the loop stands, and that the steps are there and have room
+abbrev turn : tie.After-cap Inv-loop μ-loop → tie.At-loop Inv-loop μ-loop
+turn k = k .before .before .before .before .before .before .before .before .before
 
-mul-steps : tie.Need-mul-steps Inv-loop μ-loop
-mul-steps c = omega arith
+abbrev begun : tie.After-cap Inv-loop μ-loop → tie.Start Inv-loop μ-loop
+begun k = turn k .before .before .before
 
-array-set-from-steps : tie.Need-array-set-from-steps Inv-loop μ-loop
-array-set-from-steps c = omega arith
+in-bid : (k : tie.After-cap Inv-loop μ-loop) → turn k .loop .i < length (bidSteps (begun k .args .t1))
+in-bid k = omega (arith, turn k .before, k .before .before .before .before .before .before .before)
 
-add-j-2 : tie.Need-add-j-2 Inv-loop μ-loop
-add-j-2 c = omega arith
+in-default : (k : tie.After-cap Inv-loop μ-loop) → turn k .loop .j < length (stepsOf (begun k .args .t2))
+in-default k = omega (arith, turn k .before, k .before .before .before .before .before .before .before)
 
-add-n : tie.Need-add-n Inv-loop μ-loop
-add-n c = omega arith
+has-room : (k : tie.After-cap Inv-loop μ-loop) → turn k .loop .n < mostMitigatedSteps
+has-room k =
+    let l = turn k in
+    omega (arith, in-bid k, in-default k, l .loop .inv .few, l .before .used .ensures, l .before .before .bid-used .ensures)
 
-loop-less-2 : tie.Need-loop-less-2 Inv-loop μ-loop
-loop-less-2 c = omega arith
+abbrev bid-price : tie.After-cap Inv-loop μ-loop → ℤ
+bid-price k = getD (begun k .args .t1 .steps) (turn k .loop .i) blankStep .price
+
+abbrev default-price : tie.After-cap Inv-loop μ-loop → ℤ
+default-price k = getD (begun k .args .t2 .steps) (turn k .loop .j) blankStep .price
+
+cut : (k : tie.After-cap Inv-loop μ-loop) → rd (k .cap .result) ≡ capped (begun k .args .floor) (bid-price k) (default-price k)
+cut k =
+    let fb = came (bid-price k) (k .before .before .struct-told .given .1 .0 .1) in
+    let fd = came (default-price k) (k .before .struct-told2 .given .1 .0 .1) in
+    came (k .cap .result) (k .cap .ok) ∙ simp (fb, fd) at (k .cap .ensures)
 
 loop-again-2 : tie.Need-loop-again-2 Inv-loop μ-loop
 loop-again-2 c =
-    let l = c .before .before .before .before .before .before .before .before .before .before .before .before in
-    let s = l .before .before .before in
-    let bp = getD (s .args .t1 .steps) (l .loop .i) blankStep .price in
-    let dp = getD (s .args .t2 .steps) (l .loop .j) blankStep .price in
-    let hi : l .loop .i < length (bidSteps (s .args .t1)) = omega (arith, l .before, c .before .before .before .before .before .before .before .before .before .before) in
-    let hj : l .loop .j < length (stepsOf (s .args .t2)) = omega (arith, l .before, c .before .before .before .before .before .before .before .before .before .before) in
-    let few : l .loop .n < mostMitigatedSteps = omega (arith, hi, hj, l .loop .inv .few, l .before .used .ensures, l .before .before .bid-used .ensures) in
-    let fb = came bp (c .before .before .before .before .before .struct-told .given .1 .0 .1) in
-    let fd = came dp (c .before .before .before .before .struct-told2 .given .1 .0 .1) in
-    let fr = came (c .before .before .before .cap .result) (c .before .before .before .cap .ok) in
-    let p = fr ∙ simp (fb, fd) at (c .before .before .before .cap .ensures) in
-    walked-default _ _ _ _ _ _ _ _ _ blankStep _ _ (l .loop .inv) hi hj (bid-at (s .args .t1) _ hi) (taken-at (s .args .t2 .count) (s .args .t2 .steps) _ blankStep hj) few _ p (c .before .before .before .before .before .before .if2 .left) (c .if3 .taken)
-
-mul-steps-2 : tie.Need-mul-steps-2 Inv-loop μ-loop
-mul-steps-2 c = omega arith
-
-array-set-from-steps-2 : tie.Need-array-set-from-steps-2 Inv-loop μ-loop
-array-set-from-steps-2 c = omega arith
-
-add-i : tie.Need-add-i Inv-loop μ-loop
-add-i c = omega arith
-
-add-n-2 : tie.Need-add-n-2 Inv-loop μ-loop
-add-n-2 c = omega arith
-
-loop-less-3 : tie.Need-loop-less-3 Inv-loop μ-loop
-loop-less-3 c = omega arith
+    let k = c .before .before .before in
+    let a = begun k .args in
+    walked-default _ _ _ _ _ _ _ _ _ blankStep _ _ (turn k .loop .inv) (in-bid k) (in-default k) (bid-at (a .t1) _ (in-bid k)) (taken-at (a .t2 .count) (a .t2 .steps) _ blankStep (in-default k))
+    (has-room k) _ (cut k) (k .before .before .before .if2 .left) (c .if3 .taken)
 
 loop-again-3 : tie.Need-loop-again-3 Inv-loop μ-loop
 loop-again-3 c =
-    let l = c .before .before .before .before .before .before .before .before .before .before .before .before in
-    let s = l .before .before .before in
-    let bp = getD (s .args .t1 .steps) (l .loop .i) blankStep .price in
-    let dp = getD (s .args .t2 .steps) (l .loop .j) blankStep .price in
-    let hi : l .loop .i < length (bidSteps (s .args .t1)) = omega (arith, l .before, c .before .before .before .before .before .before .before .before .before .before) in
-    let hj : l .loop .j < length (stepsOf (s .args .t2)) = omega (arith, l .before, c .before .before .before .before .before .before .before .before .before .before) in
-    let few : l .loop .n < mostMitigatedSteps = omega (arith, hi, hj, l .loop .inv .few, l .before .used .ensures, l .before .before .bid-used .ensures) in
-    let fb = came bp (c .before .before .before .before .before .struct-told .given .1 .0 .1) in
-    let fd = came dp (c .before .before .before .before .struct-told2 .given .1 .0 .1) in
-    let fr = came (c .before .before .before .cap .result) (c .before .before .before .cap .ok) in
-    let p = fr ∙ simp (fb, fd) at (c .before .before .before .cap .ensures) in
-    walked-bid _ _ _ _ _ _ _ _ _ blankStep _ _ (l .loop .inv) hi hj (bid-at (s .args .t1) _ hi) (taken-at (s .args .t2 .count) (s .args .t2 .steps) _ blankStep hj) few _ p (c .before .before .before .before .before .before .if2 .left) (c .if3 .left)
+    let k = c .before .before .before in
+    let a = begun k .args in
+    walked-bid _ _ _ _ _ _ _ _ _ blankStep _ _ (turn k .loop .inv) (in-bid k) (in-default k) (bid-at (a .t1) _ (in-bid k)) (taken-at (a .t2 .count) (a .t2 .steps) _ blankStep (in-default k))
+    (has-room k) _ (cut k) (k .before .before .before .if2 .left) (c .if3 .left)
 
 returns-2 : tie.Need-returns-2 Inv-loop μ-loop
 returns-2 c = walked-bid-end _ _ _ _ _ _ _ _ _ (c .before .loop .inv) (omega arith)
 
 pub divided-spec : {M : Type 1} → statement M
 divided-spec =
-    tie.close
-    (tie.spec
-    Inv-loop
-    μ-loop
-    bid-used-requires
-    used-requires
-    loop-holds
-    returns
-    mul-b
-    element-copy-out-b
-    mul-d
-    element-copy-out-d
-    add-j
-    loop-less
-    loop-again
-    cap-requires
-    mul-steps
-    array-set-from-steps
-    add-j-2
-    add-n
-    loop-less-2
-    loop-again-2
-    mul-steps-2
-    array-set-from-steps-2
-    add-i
-    add-n-2
-    loop-less-3
-    loop-again-3
-    returns-2)
+    tie.close (tie.spec Inv-loop μ-loop (λ c κs. search needs) (λ c κs. search needs) loop-holds returns (λ c. omega arith) (λ c. omega arith)
+    (λ c. omega arith) (λ c. omega arith) (λ c. omega arith) (λ c. omega arith) loop-again (λ c κs. search needs) (λ c. omega arith)
+    (λ c. omega arith) (λ c. omega arith) (λ c. omega arith) (λ c. omega arith) loop-again-2 (λ c. omega arith) (λ c. omega arith) (λ c. omega arith)
+    (λ c. omega arith) (λ c. omega arith) loop-again-3 returns-2)

@@ -6,24 +6,6 @@ use borrow.Author.Needs.{needs}
 use Rattle.mitigation.proofs.lowered.Statement.{statement}
 use Rattle.mitigation.proofs.lowered.Tie as tie
 
-enum-told : tie.Need-enum-told
-enum-told c = search needs
-
-enum-known-cut : tie.Need-enum-known-cut
-enum-known-cut c = search needs
-
-enum-told-2 : tie.Need-enum-told-2
-enum-told-2 c = search needs
-
-enum-known-floor : tie.Need-enum-known-floor
-enum-known-floor c = search needs
-
-min-requires : tie.Need-min-requires
-min-requires c κs = search needs
-
-returns : tie.Need-returns
-returns c = search needs
-
 returns-2 : tie.Need-returns-2
 returns-2 c =
     let k = c .before .before .before .cut .given in
@@ -41,13 +23,5 @@ returns-3 c =
 
 pub lowered-spec : {M : Type 1} → statement M
 lowered-spec =
-    tie.close
-    (tie.spec
-    enum-told
-    enum-known-cut
-    enum-told-2
-    enum-known-floor
-    min-requires
-    returns
-    returns-2
-    returns-3)
+    tie.close (tie.spec (λ c. search needs) (λ c. search needs) (λ c. search needs) (λ c. search needs) (λ c κs. search needs) (λ c. search needs)
+    returns-2 returns-3)

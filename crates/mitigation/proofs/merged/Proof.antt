@@ -22,33 +22,15 @@ Inv-loop self used start steps₀ last₀ i₀ n₀ steps last i n = Joining (us
 abbrev μ-loop : tie.MeasureT-loop
 μ-loop self used start steps₀ last₀ i₀ n₀ steps last i n = used - i
 
-used-requires : tie.Need-used-requires Inv-loop μ-loop
-used-requires c κs = search needs
-
 returns : tie.Need-returns Inv-loop μ-loop
 unfolding padded
 returns c = rw (joined-none (usedSteps (c .before .before .args .t1)) (omega arith))
-
-element-copy-out-last : tie.Need-element-copy-out-last Inv-loop μ-loop
-element-copy-out-last c = omega arith
 
 loop-holds : tie.Need-loop-holds Inv-loop μ-loop
 loop-holds c =
     let s = c .before .before .before in
     let h : 0 < length (usedSteps (s .args .t1)) = omega arith in
     joining-start _ blankStep _ h (taken-at (s .args .t1 .count) (s .args .t1 .steps) 0 blankStep h)
-
-mul-s : tie.Need-mul-s Inv-loop μ-loop
-mul-s c = omega arith
-
-element-copy-out-s : tie.Need-element-copy-out-s Inv-loop μ-loop
-element-copy-out-s c = omega arith
-
-add-i : tie.Need-add-i Inv-loop μ-loop
-add-i c = omega arith
-
-loop-less : tie.Need-loop-less Inv-loop μ-loop
-loop-less c = omega arith
 
 loop-again : tie.Need-loop-again Inv-loop μ-loop
 loop-again c =
@@ -59,21 +41,6 @@ loop-again c =
     let fs : SFits w64 (getD (s .args .t1 .steps) (l .loop .i) blankStep .price) = record { sfits = c .before .struct-told2 .given .1 .0 .1 } in
     joining-same _ _ _ _ _ (l .loop .inv) blankStep _ h (taken-at (s .args .t1 .count) (s .args .t1 .steps) _ blankStep h) (bits-same _ _ fl fs (c .if2 .taken))
 
-mul-steps : tie.Need-mul-steps Inv-loop μ-loop
-mul-steps c = omega arith
-
-array-set-from-steps : tie.Need-array-set-from-steps Inv-loop μ-loop
-array-set-from-steps c = omega arith
-
-add-n : tie.Need-add-n Inv-loop μ-loop
-add-n c = omega arith
-
-add-i-2 : tie.Need-add-i-2 Inv-loop μ-loop
-add-i-2 c = omega arith
-
-loop-less-2 : tie.Need-loop-less-2 Inv-loop μ-loop
-loop-less-2 c = omega arith
-
 loop-again-2 : tie.Need-loop-again-2 Inv-loop μ-loop
 loop-again-2 c =
     let l = c .before .before .before .before .before .before .before in
@@ -81,40 +48,11 @@ loop-again-2 c =
     let h : l .loop .i < length (usedSteps (s .args .t1)) = omega arith in
     joining-other _ _ _ _ _ (l .loop .inv) blankStep _ h (taken-at (s .args .t1 .count) (s .args .t1 .steps) _ blankStep h) (eqZ-other (l .loop .last .price) (getD (s .args .t1 .steps) (l .loop .i) blankStep .price) (λ x. c .if2 .left (ap (ofZ w64) x))) (omega arith)
 
-mul-steps-2 : tie.Need-mul-steps-2 Inv-loop μ-loop
-mul-steps-2 c = omega arith
-
-array-set-from-steps-2 : tie.Need-array-set-from-steps-2 Inv-loop μ-loop
-array-set-from-steps-2 c = omega arith
-
-add-t24 : tie.Need-add-t24 Inv-loop μ-loop
-add-t24 c = omega arith
-
 returns-2 : tie.Need-returns-2 Inv-loop μ-loop
 returns-2 c = joining-end _ _ _ _ _ (c .before .loop .inv) _ (omega arith) (omega arith)
 
 pub merged-spec : {M : Type 1} → statement M
 merged-spec =
-    tie.close
-    (tie.spec
-    Inv-loop
-    μ-loop
-    used-requires
-    returns
-    element-copy-out-last
-    loop-holds
-    mul-s
-    element-copy-out-s
-    add-i
-    loop-less
-    loop-again
-    mul-steps
-    array-set-from-steps
-    add-n
-    add-i-2
-    loop-less-2
-    loop-again-2
-    mul-steps-2
-    array-set-from-steps-2
-    add-t24
-    returns-2)
+    tie.close (tie.spec Inv-loop μ-loop (λ c κs. search needs) returns (λ c. omega arith) loop-holds (λ c. omega arith) (λ c. omega arith)
+    (λ c. omega arith) (λ c. omega arith) loop-again (λ c. omega arith) (λ c. omega arith) (λ c. omega arith) (λ c. omega arith) (λ c. omega arith)
+    loop-again-2 (λ c. omega arith) (λ c. omega arith) (λ c. omega arith) returns-2)

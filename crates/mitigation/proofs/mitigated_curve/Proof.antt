@@ -6,15 +6,9 @@ use borrow.Author.Needs.{needs}
 use Rattle.mitigation.proofs.mitigated_curve.Statement.{statement}
 use Rattle.mitigation.proofs.mitigated_curve.Tie as tie
 
-divided-requires : tie.Need-divided-requires
-divided-requires c κs = search needs
-
-merged-requires : tie.Need-merged-requires
-merged-requires c κs = search needs
-
 returns : tie.Need-returns
 unfolding mitigated
 returns c = c .merged .ensures ∙ rw (c .before .divided .ensures, padded-used)
 
 pub mitigated-curve-spec : {M : Type 1} → statement M
-mitigated-curve-spec = tie.close (tie.spec divided-requires merged-requires returns)
+mitigated-curve-spec = tie.close (tie.spec (λ c κs. search needs) (λ c κs. search needs) returns)

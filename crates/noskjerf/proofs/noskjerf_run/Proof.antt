@@ -11,12 +11,6 @@ use Rattle.rules_library.specs.Answers.{ranNumber}
 use Rattle.noskjerf.proofs.noskjerf_run.Statement.{statement}
 use Rattle.noskjerf.proofs.noskjerf_run.Tie as tie
 
-run-requires : tie.Need-run-requires
-run-requires c κs = search needs
-
-enum-known-count : tie.Need-enum-known-count
-enum-known-count c = search needs
-
 -- the count is small
 few : (c : tie.After-known-told) → c .before .count .given .0 .0 ≤ 655424
 few c =
@@ -27,19 +21,10 @@ few c =
 cast-result : tie.Need-cast-result
 cast-result c = record { sfits = omega (arith, few c) }
 
-enum-told : tie.Need-enum-told
-enum-told c = search needs
-
-same-length : tie.Need-same-length
-same-length c = search needs
-
 returns : tie.Need-returns
 returns c =
     let p = c .before .before .before .before .before .run in
     (p .ensures .0, toZ-pos w64 {n = c .before .count .given .0 .0} (omega (arith, few c)) ∙ ap ranNumber (sym (c .before .count .given .1) ∙ p .ensures .1 .0))
-
-same-length-2 : tie.Need-same-length-2
-same-length-2 c = search needs
 
 returns-2 : tie.Need-returns-2
 returns-2 c =
@@ -48,13 +33,5 @@ returns-2 c =
 
 pub noskjerf-run-spec : {M : Type 1} → statement M
 noskjerf-run-spec =
-    tie.close
-    (tie.spec
-    run-requires
-    enum-known-count
-    cast-result
-    enum-told
-    same-length
-    returns
-    same-length-2
+    tie.close (tie.spec (λ c κs. search needs) (λ c. search needs) cast-result (λ c. search needs) (λ c. search needs) returns (λ c. search needs)
     returns-2)

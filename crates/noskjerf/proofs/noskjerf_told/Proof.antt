@@ -17,30 +17,12 @@ returns c =
     let a = c .before .before .before .before .args in
     few-told (a .page .now) (a .told .now) (output (a .text .now)) (endOf (a .text .now)) (c .if1 .taken)
 
-run-requires : tie.Need-run-requires
-run-requires c κs = search needs
-
-enum-known-count : tie.Need-enum-known-count
-enum-known-count c = search needs
-
-enum-told : tie.Need-enum-told
-enum-told c = search needs
-
-same-length : tie.Need-same-length
-same-length c = search needs
-
 returns-2 : tie.Need-returns-2
 returns-2 c =
     let r = c .before .before .before .before in
     let e = r .before .before in
     let a = e .before .before .before .before .args in
     no-room (a .page .now) (a .told .now) (output (a .text .now)) (endOf (a .text .now)) (e .if1 .left) _ (r .run .ensures .0) (sym (c .enum-told .given .1) ∙ r .run .ensures .1 .0)
-
-slice-write-told : tie.Need-slice-write-told
-slice-write-told c = search needs
-
-slice-write-told-2 : tie.Need-slice-write-told-2
-slice-write-told-2 c = search needs
 
 abbrev ran : tie.After-known-told → tie.After-run
 ran c = c .before .before .before .before .before
@@ -63,12 +45,6 @@ few c =
 cast-result : tie.Need-cast-result
 cast-result c = record { sfits = omega (arith, few c) }
 
-same-length-2 : tie.Need-same-length-2
-same-length-2 c = search needs
-
-same-length-3 : tie.Need-same-length-3
-same-length-3 c = search needs
-
 returns-3 : tie.Need-returns-3
 returns-3 c =
     let r = ran c in
@@ -78,17 +54,5 @@ returns-3 c =
 
 pub noskjerf-told-spec : {M : Type 1} → statement M
 noskjerf-told-spec =
-    tie.close
-    (tie.spec
-    returns
-    run-requires
-    enum-known-count
-    enum-told
-    same-length
-    returns-2
-    slice-write-told
-    slice-write-told-2
-    cast-result
-    same-length-2
-    same-length-3
-    returns-3)
+    tie.close (tie.spec returns (λ c κs. search needs) (λ c. search needs) (λ c. search needs) (λ c. search needs) returns-2 (λ c. search needs)
+    (λ c. search needs) cast-result (λ c. search needs) (λ c. search needs) returns-3)

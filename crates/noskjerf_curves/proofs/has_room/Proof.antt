@@ -13,9 +13,6 @@ use Rattle.noskjerf_curves.proofs.has_room.Tie as tie
 returns : tie.Need-returns
 returns c = let a = c .before .args in sym (first-fails (leb stateRoom (a .state)) (leb (2 + a .steps) (a .edges) && leb (a .steps) (a .prices)) (lt-leb stateRoom (a .state) (c .if1 .taken)))
 
-add-if2 : tie.Need-add-if2
-add-if2 c = search needs
-
 returns-2 : tie.Need-returns-2
 returns-2 c =
     let e = c .before in
@@ -33,4 +30,4 @@ returns-3 c =
     (first-holds (leb (2 + a .steps) (a .edges)) last last (le-leb (2 + a .steps) (a .edges) (c .if2 .left)) refl))
 
 pub has-room-spec : {M : Type 1} → statement M
-has-room-spec = tie.close (tie.spec returns add-if2 returns-2 returns-3)
+has-room-spec = tie.close (tie.spec returns (λ c. search needs) returns-2 returns-3)

@@ -30,27 +30,12 @@ costs s c = sets (s .args .prices .now) 0 (pricesOf c)
 abbrev asked : tie.Start → Curve
 asked s = defaultIn (s .args .state .now) (s .args .r)
 
-has-room-requires : tie.Need-has-room-requires
-has-room-requires c κs = search needs
-
 returns : tie.Need-returns
 unfolding defaultOfAnswer defaultOfEdges defaultOfPrices
 returns c =
     let h = c .before in
     let s = h .before .before in
     too-short (room s) 0 (ends s (asked s)) (s .args .edges .now) (costs s (asked s)) (s .args .prices .now) (sym (h .has-room .ensures) ∙ not-true _ (c .if1 .taken))
-
-row-in-requires : tie.Need-row-in-requires
-row-in-requires c κs = search needs
-
-put-default-requires : tie.Need-put-default-requires
-put-default-requires c κs = search needs
-
-same-length : tie.Need-same-length
-same-length c = search needs
-
-same-length-2 : tie.Need-same-length-2
-same-length-2 c = search needs
 
 returns-2 : tie.Need-returns-2
 unfolding defaultOfAnswer defaultOfEdges defaultOfPrices
@@ -66,12 +51,5 @@ returns-2 c =
 
 pub noskjerf-default-of-spec : {M : Type 1} → statement M
 noskjerf-default-of-spec =
-    tie.close
-    (tie.spec
-    has-room-requires
-    returns
-    row-in-requires
-    put-default-requires
-    same-length
-    same-length-2
+    tie.close (tie.spec (λ c κs. search needs) returns (λ c κs. search needs) (λ c κs. search needs) (λ c. search needs) (λ c. search needs)
     returns-2)

@@ -11,15 +11,6 @@ use Rattle.rules_curve.specs.declared.RawCurve.{RawCurve}
 use Rattle.noskjerf_judgements.proofs.noskjerf_bid.Statement.{statement}
 use Rattle.noskjerf_judgements.proofs.noskjerf_bid.Tie as tie
 
-steps-in-requires : tie.Need-steps-in-requires
-steps-in-requires c κs = search needs
-
-checked-bid-requires : tie.Need-checked-bid-requires
-checked-bid-requires c κs = search needs
-
-outcome-number-requires : tie.Need-outcome-number-requires
-outcome-number-requires c κs = search needs
-
 by-fields : {n : ℕ} {s s' : ℤ} {l l' : List RawStep} → s ≡ s' → l ≡ l'
     → _≡_ {A = RawCurve} (record { start = s; count = n; steps = l }) (record { start = s'; count = n; steps = l' })
 by-fields e f = cc
@@ -32,4 +23,4 @@ returns c =
 
 pub noskjerf-bid-spec : {M : Type 1} → statement M
 noskjerf-bid-spec =
-    tie.close (tie.spec steps-in-requires checked-bid-requires outcome-number-requires returns)
+    tie.close (tie.spec (λ c κs. search needs) (λ c κs. search needs) (λ c κs. search needs) returns)

@@ -11,21 +11,6 @@ use Rattle.noskjerf_judgements.proofs.DefaultLaws.{put-same, put-costs}
 use Rattle.noskjerf_judgements.proofs.noskjerf_default.Statement.{statement}
 use Rattle.noskjerf_judgements.proofs.noskjerf_default.Tie as tie
 
-costs-in-requires : tie.Need-costs-in-requires
-costs-in-requires c κs = search needs
-
-default-curve-requires : tie.Need-default-curve-requires
-default-curve-requires c κs = search needs
-
-put-checked-requires : tie.Need-put-checked-requires
-put-checked-requires c κs = search needs
-
-same-length : tie.Need-same-length
-same-length c = search needs
-
-same-length-2 : tie.Need-same-length-2
-same-length-2 c = search needs
-
 returns : tie.Need-returns
 returns c =
     let p = c .before .before .before in
@@ -41,11 +26,4 @@ returns c =
 
 pub noskjerf-default-spec : {M : Type 1} → statement M
 noskjerf-default-spec =
-    tie.close
-    (tie.spec
-    costs-in-requires
-    default-curve-requires
-    put-checked-requires
-    same-length
-    same-length-2
-    returns)
+    tie.close (tie.spec (λ c κs. search needs) (λ c κs. search needs) (λ c κs. search needs) (λ c. search needs) (λ c. search needs) returns)

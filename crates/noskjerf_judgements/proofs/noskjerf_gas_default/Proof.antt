@@ -12,24 +12,6 @@ use Rattle.noskjerf_judgements.proofs.DefaultLaws.{put-same}
 use Rattle.noskjerf_judgements.proofs.noskjerf_gas_default.Statement.{statement}
 use Rattle.noskjerf_judgements.proofs.noskjerf_gas_default.Tie as tie
 
-list-of-requires : tie.Need-list-of-requires
-list-of-requires c κs = search needs
-
-costs-in-requires : tie.Need-costs-in-requires
-costs-in-requires c κs = search needs
-
-default-on-requires : tie.Need-default-on-requires
-default-on-requires c κs = search needs
-
-put-checked-requires : tie.Need-put-checked-requires
-put-checked-requires c κs = search needs
-
-same-length : tie.Need-same-length
-same-length c = search needs
-
-same-length-2 : tie.Need-same-length-2
-same-length-2 c = search needs
-
 returns : tie.Need-returns
 returns c =
     let p = c .before .before .before in
@@ -48,12 +30,5 @@ returns c =
 
 pub noskjerf-gas-default-spec : {M : Type 1} → statement M
 noskjerf-gas-default-spec =
-    tie.close
-    (tie.spec
-    list-of-requires
-    costs-in-requires
-    default-on-requires
-    put-checked-requires
-    same-length
-    same-length-2
-    returns)
+    tie.close (tie.spec (λ c κs. search needs) (λ c κs. search needs) (λ c κs. search needs) (λ c κs. search needs) (λ c. search needs)
+    (λ c. search needs) returns)

@@ -6,16 +6,10 @@ use Rattle.rules_gas.specs.Book.{runIn}
 use Rattle.noskjerf_judgements.proofs.noskjerf_gas_run.Statement.{statement}
 use Rattle.noskjerf_judgements.proofs.noskjerf_gas_run.Tie as tie
 
-list-of-requires : tie.Need-list-of-requires
-list-of-requires c κs = search needs
-
-run-in-requires : tie.Need-run-in-requires
-run-in-requires c κs = search needs
-
 returns : tie.Need-returns
 returns c =
     let a = c .before .before .before .before .args in
     ap length (c .run-in .ensures ∙ ap (runIn (a .day)) (c .before .list-of .ensures))
 
 pub noskjerf-gas-run-spec : {M : Type 1} → statement M
-noskjerf-gas-run-spec = tie.close (tie.spec list-of-requires run-in-requires returns)
+noskjerf-gas-run-spec = tie.close (tie.spec (λ c κs. search needs) (λ c κs. search needs) returns)

@@ -17,9 +17,6 @@ month-is c = simp (toZ-ofZ w64 (c .before .args .month) (c .before .fits .month)
 month-in : (c : tie.Else1) → inRange (pos 1) (pos 1200) (c .before .before .args .month) ≡ true
 month-in c = sym (month-is (c .before)) ∙ not-false _ (c .if1 .left)
 
-within-requires : tie.Need-within-requires
-within-requires c κs = search needs
-
 returns : tie.Need-returns
 returns c = simp (sym (month-is (c .before)) ∙ not-true _ (c .if1 .taken))
 
@@ -47,4 +44,4 @@ returns-5 c =
 
 pub counts-good-spec : {M : Type 1} → statement M
 counts-good-spec =
-    tie.close (tie.spec within-requires returns returns-2 returns-3 returns-4 returns-5)
+    tie.close (tie.spec (λ c κs. search needs) returns returns-2 returns-3 returns-4 returns-5)

@@ -1,87 +1,20 @@
 -- `opening_cells::bid_outcome` meets its contract. Assumes nothing.
-use mathlib.Core.Bool.{true, false}
-use mathlib.Core.Path.{_≡_, sym, _∙_}
-use Prim.Native.Nat.{ℕ, _<_, _≤_}
-use native.Mathlib.Omega.{arith}
-use borrow.Author.Tests.{not-true, not-false, le-leb, lt-leb}
 use borrow.Author.Needs.{needs}
 use Rattle.rules_number.proofs.Kit.{came}
-use Rattle.rules_curve.specs.Curves.{mostBidSteps, lowestBid, highestBid, countGood, edgesGood, pricesGood}
-use Rattle.rules_curve.specs.declared.RawCurve.{RawCurve}
-use Rattle.rules_curve.proofs.CheckLaws.{refused-count, refused-edge, refused-price, taken-curve}
-use Rattle.rules_library.specs.Slices.{rawBid}
+use Rattle.opening_cells.proofs.CellLaws.{bid-range}
 use Rattle.opening_cells.proofs.bid_outcome.Statement.{statement}
 use Rattle.opening_cells.proofs.bid_outcome.Tie as tie
 
--- the curve, and the count's test
-abbrev raw : tie.Start → RawCurve
-raw s = rawBid (s .args .start) (s .args .n) (s .args .steps .now)
-
-over : (most : ℕ) (c : RawCurve) → 1 ≤ c .count → most < c .count → countGood most c ≡ false
-over most c l h = rw (le-leb 1 (c .count) l, lt-leb (c .count) most h)
-
-within : (most : ℕ) (c : RawCurve) → 1 ≤ c .count → c .count ≤ most → countGood most c ≡ true
-within most c l h = rw (le-leb 1 (c .count) l, le-leb (c .count) most h)
-
-edges-are : (c : tie.After-edges-good) → c .edges-good .result ≡ edgesGood (raw (c .before .before .before))
-edges-are c = let s = c .before .before .before in rw (came (s .args .start) (s .fits .start .sfits)) at (c .edges-good .ensures)
-
-edges : (c : tie.Else3) → edgesGood (raw (c .before .before .before .before)) ≡ true
-edges c = sym (edges-are (c .before)) ∙ not-false _ (c .if3 .left)
-
-prices-are : (c : tie.After-prices-good) → c .prices-good .result ≡ pricesGood lowestBid (highestBid (c .before .before .before .before .before .before .args .month)) (raw (c .before .before .before .before .before .before))
-prices-are c =
-    let f = came (c .before .highest-bid .result) (c .before .highest-bid .ok) in
-    rw (c .before .highest-bid .ensures) at (simp f at (c .prices-good .ensures))
+curve-outcome-requires : tie.Need-curve-outcome-requires
+curve-outcome-requires c κs =
+    let h = c .highest-bid in
+    (search needs, (search needs, rw (came (h .result) (h .ok), h .ensures) (bid-range (c .before .args .month))))
 
 returns : tie.Need-returns
 returns c =
-    let s = c .before in
-    sym (refused-count mostBidSteps lowestBid (highestBid (s .args .month)) (raw s) (rw (c .if1 .taken)))
-
-returns-2 : tie.Need-returns-2
-returns-2 c =
+    let h = c .before .highest-bid in
     let s = c .before .before in
-    sym (refused-count mostBidSteps lowestBid (highestBid (s .args .month)) (raw s) (over mostBidSteps (raw s) (omega arith) (omega arith)))
-
-edges-good-requires : tie.Need-edges-good-requires
-edges-good-requires c κs = search needs
-
-returns-3 : tie.Need-returns-3
-returns-3 c =
-    let e = c .before in
-    let s = e .before .before .before in
-    sym (refused-edge mostBidSteps lowestBid (highestBid (s .args .month)) (raw s) (within mostBidSteps (raw s) (omega arith) (omega arith)) (sym (edges-are e) ∙ not-true _ (c .if3 .taken)))
-
-highest-bid-requires : tie.Need-highest-bid-requires
-highest-bid-requires c κs = search needs
-
-prices-good-requires : tie.Need-prices-good-requires
-prices-good-requires c κs = search needs
-
-returns-4 : tie.Need-returns-4
-returns-4 c =
-    let p = c .before in
-    let e = p .before .before in
-    let s = e .before .before .before .before in
-    sym (refused-price mostBidSteps lowestBid (highestBid (s .args .month)) (raw s) (within mostBidSteps (raw s) (omega arith) (omega arith)) (edges e) (sym (prices-are p) ∙ not-true _ (c .if4 .taken)))
-
-returns-5 : tie.Need-returns-5
-returns-5 c =
-    let p = c .before in
-    let e = p .before .before in
-    let s = e .before .before .before .before in
-    sym (taken-curve mostBidSteps lowestBid (highestBid (s .args .month)) (raw s) (within mostBidSteps (raw s) (omega arith) (omega arith)) (edges e) (sym (prices-are p) ∙ not-false _ (c .if4 .left)))
+    rw (came (s .args .start) (s .fits .start .sfits), came (h .result) (h .ok), h .ensures) at (c .curve-outcome .ensures)
 
 pub bid-outcome-spec : {M : Type 1} → statement M
-bid-outcome-spec =
-    tie.close
-    (tie.spec
-    returns
-    returns-2
-    edges-good-requires
-    returns-3
-    highest-bid-requires
-    prices-good-requires
-    returns-4
-    returns-5)
+bid-outcome-spec = tie.close (tie.spec (λ c κs. search needs) curve-outcome-requires returns)

@@ -10,30 +10,12 @@ use Rattle.opening_cells.proofs.StepLaws.{ends-none, ends-last}
 use Rattle.opening_cells.proofs.end_at.Statement.{statement}
 use Rattle.opening_cells.proofs.end_at.Tie as tie
 
-whole-requires : tie.Need-whole-requires
-whole-requires c κs = search needs
-
 returns : tie.Need-returns
 returns c =
     let s = c .before .before in
     let a = s .args in
     let e : c .whole .result ≡ natOf (a .start) = rw (came (a .start) (s .fits .start .sfits)) at (c .whole .ensures) in
     e ∙ ends-none (a .start) (a .n) (a .steps .now) (omega arith) (c .before .if1 .taken)
-
-sub-whole : tie.Need-sub-whole
-sub-whole c = search needs
-
-mul-whole : tie.Need-mul-whole
-mul-whole c = search needs
-
-mul-whole-2 : tie.Need-mul-whole-2
-mul-whole-2 c = search needs
-
-shared-slice-copy-out-whole : tie.Need-shared-slice-copy-out-whole
-shared-slice-copy-out-whole c = search needs
-
-whole-requires-2 : tie.Need-whole-requires-2
-whole-requires-2 c κs = search needs
 
 returns-2 : tie.Need-returns-2
 returns-2 c =
@@ -45,5 +27,5 @@ returns-2 c =
 
 pub end-at-spec : {M : Type 1} → statement M
 end-at-spec =
-    tie.close
-    (tie.spec whole-requires returns sub-whole mul-whole mul-whole-2 shared-slice-copy-out-whole whole-requires-2 returns-2)
+    tie.close (tie.spec (λ c κs. search needs) returns (λ c. search needs) (λ c. search needs) (λ c. search needs) (λ c. search needs)
+    (λ c κs. search needs) returns-2)

@@ -56,17 +56,11 @@ owners-is c =
 owners : (c : tie.Else3) → ownersGood (opening (c .before .before .before .before .before .before)) ≡ true
 owners c = sym (owners-is (c .before)) ∙ not-false _ (c .if3 .left)
 
-counts-good-requires : tie.Need-counts-good-requires
-counts-good-requires c κs = search needs
-
 returns : tie.Need-returns
 returns c =
     let s = c .before .before in
     let n = none-by-counts (opening s) (s .args .state .now) (sym (counts-is (c .before)) ∙ not-true _ (c .if1 .taken)) in
     (sym (n .0), sym (n .1))
-
-sellers-good-requires : tie.Need-sellers-good-requires
-sellers-good-requires c κs = search needs
 
 returns-2 : tie.Need-returns-2
 returns-2 c =
@@ -89,14 +83,8 @@ returns-3 c =
 put-fresh-requires : tie.Need-put-fresh-requires
 put-fresh-requires c κs = few (c .before .before .before .before .before)
 
-whole-requires : tie.Need-whole-requires
-whole-requires c κs = search needs
-
 put-resources-requires : tie.Need-put-resources-requires
 put-resources-requires c κs = few (c .before .before .before .before .before .before .before .before .before) .1
-
-same-length : tie.Need-same-length
-same-length c = search needs
 
 returns-4 : tie.Need-returns-4
 returns-4 c =
@@ -118,16 +106,5 @@ returns-4 c =
 
 pub open-into-spec : {M : Type 1} → statement M
 open-into-spec =
-    tie.close
-    (tie.spec
-    counts-good-requires
-    returns
-    sellers-good-requires
-    returns-2
-    owners-known-requires
-    returns-3
-    put-fresh-requires
-    whole-requires
-    put-resources-requires
-    same-length
-    returns-4)
+    tie.close (tie.spec (λ c κs. search needs) returns (λ c κs. search needs) returns-2 owners-known-requires returns-3 put-fresh-requires
+    (λ c κs. search needs) put-resources-requires (λ c. search needs) returns-4)

@@ -34,18 +34,9 @@ abbrev μ-loop : tie.MeasureT-loop
 read : (c : tie.After-cell-at Inv-loop μ-loop) → rd (c .cell-at .result) ≡ owner (c .before .before .before .args .blocks .now) (c .before .before .loop .r)
 read c = came (c .cell-at .result) (c .cell-at .ok) ∙ c .cell-at .ensures
 
-cast-known : tie.Need-cast-known Inv-loop μ-loop
-cast-known c = search needs
-
 loop-holds : tie.Need-loop-holds Inv-loop μ-loop
 unfolding allTo
 loop-holds c = (omega arith, refl)
-
-mul-cell-at : tie.Need-mul-cell-at Inv-loop μ-loop
-mul-cell-at c = search needs
-
-cell-at-requires : tie.Need-cell-at-requires Inv-loop μ-loop
-cell-at-requires c κs = search needs
 
 returns : tie.Need-returns Inv-loop μ-loop
 returns c =
@@ -63,12 +54,6 @@ returns-2 c =
     let e : good (s .blocks .now) (s .portfolios) (l .loop .r) ≡ false =
     rw (not-lt-le z (pos 0) (rw (read (c .before .before)) at (c .before .if1 .left)), le-not-lt (pos (s .portfolios)) z (rw (read (c .before .before), f) at (c .if2 .taken))) in
     sym (all-fails (good (s .blocks .now) (s .portfolios)) (s .n) (l .loop .r) (omega arith) e)
-
-add-r : tie.Need-add-r Inv-loop μ-loop
-add-r c = search needs
-
-loop-less : tie.Need-loop-less Inv-loop μ-loop
-loop-less c = search needs
 
 loop-again : tie.Need-loop-again Inv-loop μ-loop
 loop-again c =
@@ -88,17 +73,5 @@ returns-3 c =
 
 pub owners-known-spec : {M : Type 1} → statement M
 owners-known-spec =
-    tie.close
-    (tie.spec
-    Inv-loop
-    μ-loop
-    cast-known
-    loop-holds
-    mul-cell-at
-    cell-at-requires
-    returns
-    returns-2
-    add-r
-    loop-less
-    loop-again
-    returns-3)
+    tie.close (tie.spec Inv-loop μ-loop (λ c. search needs) loop-holds (λ c. search needs) (λ c κs. search needs) returns returns-2
+    (λ c. search needs) (λ c. search needs) loop-again returns-3)

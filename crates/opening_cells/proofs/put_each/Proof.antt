@@ -31,26 +31,11 @@ loop-holds : tie.Need-loop-holds Inv-loop μ-loop
 unfolding listed
 loop-holds c = (omega arith, refl, refl)
 
-add-put-whole : tie.Need-add-put-whole Inv-loop μ-loop
-add-put-whole c = search needs
-
 mul-whole-at : tie.Need-mul-whole-at Inv-loop μ-loop
 mul-whole-at c =
     let l = c .before in
     let k : l .before .before .args .width * l .before .loop .k ≤ blockRoom * l .before .loop .k = mul-le-mul-right (l .before .loop .k) (omega arith) in
     omega arith
-
-whole-at-requires : tie.Need-whole-at-requires Inv-loop μ-loop
-whole-at-requires c κs = search needs
-
-put-whole-requires : tie.Need-put-whole-requires Inv-loop μ-loop
-put-whole-requires c κs = search needs
-
-add-k : tie.Need-add-k Inv-loop μ-loop
-add-k c = search needs
-
-loop-less : tie.Need-loop-less Inv-loop μ-loop
-loop-less c = search needs
 
 loop-again : tie.Need-loop-again Inv-loop μ-loop
 loop-again c =
@@ -75,17 +60,5 @@ returns c =
 
 pub put-each-spec : {M : Type 1} → statement M
 put-each-spec =
-    tie.close
-    (tie.spec
-    Inv-loop
-    μ-loop
-    loop-holds
-    add-put-whole
-    mul-whole-at
-    whole-at-requires
-    put-whole-requires
-    add-k
-    loop-less
-    loop-again
-    same-length
-    returns)
+    tie.close (tie.spec Inv-loop μ-loop loop-holds (λ c. search needs) mul-whole-at (λ c κs. search needs) (λ c κs. search needs) (λ c. search needs)
+    (λ c. search needs) loop-again same-length returns)

@@ -8,21 +8,6 @@ use Rattle.opening_cells.proofs.OpenLaws.{padded-put}
 use Rattle.opening_cells.proofs.put_padded.Statement.{statement}
 use Rattle.opening_cells.proofs.put_padded.Tie as tie
 
-put-each-requires : tie.Need-put-each-requires
-put-each-requires c κs = search needs
-
-add-clear : tie.Need-add-clear
-add-clear c = search needs
-
-sub-clear : tie.Need-sub-clear
-sub-clear c = search needs
-
-clear-requires : tie.Need-clear-requires
-clear-requires c κs = omega arith
-
-same-length : tie.Need-same-length
-same-length c = search needs
-
 returns : tie.Need-returns
 returns c =
     let q = c .before in
@@ -32,4 +17,4 @@ returns c =
 
 pub put-padded-spec : {M : Type 1} → statement M
 put-padded-spec =
-    tie.close (tie.spec put-each-requires add-clear sub-clear clear-requires same-length returns)
+    tie.close (tie.spec (λ c κs. search needs) (λ c. search needs) (λ c. search needs) (λ c κs. omega arith) (λ c. search needs) returns)

@@ -38,18 +38,6 @@ loop-holds : tie.Need-loop-holds Inv-loop μ-loop
 unfolding listed eachTo flatMap
 loop-holds c = (omega arith, refl, refl, refl, refl)
 
-put-resource-requires : tie.Need-put-resource-requires Inv-loop μ-loop
-put-resource-requires c κs = search needs
-
-enum-told : tie.Need-enum-told Inv-loop μ-loop
-enum-told c = search needs
-
-enum-told-2 : tie.Need-enum-told-2 Inv-loop μ-loop
-enum-told-2 c = search needs
-
-same-length : tie.Need-same-length Inv-loop μ-loop
-same-length c = search needs
-
 returns : tie.Need-returns Inv-loop μ-loop
 returns c =
     let p = c .before .before .before in
@@ -61,12 +49,6 @@ returns c =
     let e = each-stops f (a .n) (l .loop .r) (omega arith) (l .loop .inv .2) h in
     let s = skipped (f (l .loop .r)) (sets (l .loop .state) (rowFrom (l .loop .r)) (rowCells (row (a .blocks .now) (l .loop .r)))) (l .loop .state) h in
     (p .put-resource .ensures .0 ∙ sym e, p .put-resource .ensures .1 .1 ∙ s ∙ rw (open-stops f (a .n) (l .loop .r) (omega arith) (l .loop .inv .2) h) (l .loop .inv .4))
-
-add-r : tie.Need-add-r Inv-loop μ-loop
-add-r c = search needs
-
-loop-less : tie.Need-loop-less Inv-loop μ-loop
-loop-less c = search needs
 
 loop-again : tie.Need-loop-again Inv-loop μ-loop
 loop-again c =
@@ -98,18 +80,5 @@ returns-2 c =
 
 pub put-resources-spec : {M : Type 1} → statement M
 put-resources-spec =
-    tie.close
-    (tie.spec
-    Inv-loop
-    μ-loop
-    loop-holds
-    put-resource-requires
-    enum-told
-    enum-told-2
-    same-length
-    returns
-    add-r
-    loop-less
-    loop-again
-    same-length-2
-    returns-2)
+    tie.close (tie.spec Inv-loop μ-loop loop-holds (λ c κs. search needs) (λ c. search needs) (λ c. search needs) (λ c. search needs) returns
+    (λ c. search needs) (λ c. search needs) loop-again same-length-2 returns-2)

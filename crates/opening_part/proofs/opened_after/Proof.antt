@@ -73,24 +73,6 @@ opened t after r o =
     (rises-last (count t) (openingWith (rd (a .month)) (a .portfolios) (a .sellers .now) (count t) portfolio start) (line t) (lines (drop (g .result .next) (text b)))) (a .state .now) after r o)
 
 -- ---- the needs
-slice-aggregate-line-is : tie.Need-slice-aggregate-line-is
-slice-aggregate-line-is c = search needs
-
-line-is-requires : tie.Need-line-is-requires
-line-is-requires c κs = search needs
-
-enum-known-at : tie.Need-enum-known-at
-enum-known-at c = search needs
-
-enum-told : tie.Need-enum-told
-enum-told c = search needs
-
-add-faulty-line : tie.Need-add-faulty-line
-add-faulty-line c = search needs
-
-faulty-line-requires : tie.Need-faulty-line-requires
-faulty-line-requires c κs = search needs
-
 returns : tie.Need-returns
 returns c =
     let l = c .before .before .before in
@@ -100,69 +82,22 @@ returns c =
     (unnamed-four (a .month) (a .portfolios) (a .sellers .now) (text b) (a .n) (a .at) (sym (c .before .enum-told .given .1) ∙ l .line-is .ensures))
     (a .state .now) (c .faulty-line .result) (c .faulty-line .ensures)
 
-slice-aggregate-two-columns-at : tie.Need-slice-aggregate-two-columns-at
-slice-aggregate-two-columns-at c = search needs
-
-slice-aggregate-two-columns-at-2 : tie.Need-slice-aggregate-two-columns-at-2
-slice-aggregate-two-columns-at-2 c = search needs
-
-two-columns-at-requires : tie.Need-two-columns-at-requires
-two-columns-at-requires c κs = search needs
-
-add-n : tie.Need-add-n
-add-n c = search needs
-
 add-n-2 : tie.Need-add-n-2
 add-n-2 c = let t = c .before .before in let f = few t in omega (arith, begun t .good)
 
-opened-small-requires : tie.Need-opened-small-requires
-opened-small-requires c κs =
-    let i = c .before .before .before in
-    let t = i .before .before .before in
-    (omega (arith, few t), i .if1 .taken)
-
-same-length : tie.Need-same-length
-same-length c = search needs
+opened-with-requires : tie.Need-opened-with-requires
+opened-with-requires c κs =
+    let t = c .before .before .before .before .before in
+    omega (arith, few t)
 
 returns-2 : tie.Need-returns-2
 returns-2 c =
     let o = c .before in
-    let t = o .before .before .before .before .before .before .before in
-    opened t _ (o .opened-small .result) (o .opened-small .ensures)
-
-opened-large-requires : tie.Need-opened-large-requires
-opened-large-requires c κs =
-    let t = c .before .before .before .before .before .before in
-    omega (arith, few t)
-
-same-length-2 : tie.Need-same-length-2
-same-length-2 c = search needs
-
-returns-3 : tie.Need-returns-3
-returns-3 c =
-    let o = c .before in
-    let t = o .before .before .before .before .before .before .before in
-    opened t _ (o .opened-large .result) (o .opened-large .ensures)
+    let t = o .before .before .before .before .before .before in
+    opened t _ (o .opened-with .result) (o .opened-with .ensures)
 
 pub opened-after-spec : {M : Type 1} → statement M
 opened-after-spec =
-    tie.close
-    (tie.spec
-    slice-aggregate-line-is
-    line-is-requires
-    enum-known-at
-    enum-told
-    add-faulty-line
-    faulty-line-requires
-    returns
-    slice-aggregate-two-columns-at
-    slice-aggregate-two-columns-at-2
-    two-columns-at-requires
-    add-n
-    add-n-2
-    opened-small-requires
-    same-length
-    returns-2
-    opened-large-requires
-    same-length-2
-    returns-3)
+    tie.close (tie.spec (λ c. search needs) (λ c κs. search needs) (λ c. search needs) (λ c. search needs) (λ c. search needs) (λ c κs. search needs)
+    returns (λ c. search needs) (λ c. search needs) (λ c κs. search needs) (λ c. search needs) add-n-2 opened-with-requires (λ c. search needs)
+    returns-2)

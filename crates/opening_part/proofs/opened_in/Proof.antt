@@ -30,15 +30,6 @@ opens c l = let a = begun c .args in openingIn (a .month) (a .portfolios) (a .se
 abbrev all : tie.After-tables-into → Reading Opening
 all c = let a = begun c .args in lastThree (a .m) (λ steps points costs. opens c (blocksOf (a .blocks .now) steps points costs)) (a .n) (lines (drop (a .at) (a .s .now)))
 
-tables-into-requires : tie.Need-tables-into-requires
-tables-into-requires c κs = search needs
-
-faulty-line-requires : tie.Need-faulty-line-requires
-faulty-line-requires c κs = search needs
-
-same-length : tie.Need-same-length
-same-length c = search needs
-
 returns : tie.Need-returns
 returns c =
     let t = c .before .before .before in
@@ -47,12 +38,6 @@ returns c =
     opened-fault (a .s .now) (a .n) (a .at) (all t) (r .fault)
     (tables-fault (a .s .now) (a .m) (blocksOf (a .blocks .now)) (opens t) (a .n) (lines (drop (a .at) (a .s .now))) (r .fault) (put t) (r .line) (r .next) (t .tables-into .ensures .0) (c .before .if1 .taken))
     (a .state .now) (c .faulty-line .result) (c .faulty-line .ensures)
-
-open-into-requires : tie.Need-open-into-requires
-open-into-requires c κs = search needs
-
-outcome-number-requires : tie.Need-outcome-number-requires
-outcome-number-requires c κs = search needs
 
 -- ---- the opening
 abbrev reads : tie.After-outcome-number → tie.After-tables-into
@@ -83,12 +68,6 @@ found-is c =
     let r = t .tables-into .result in
     tables-found (a .s .now) (a .m) (blocksOf (a .blocks .now)) (opens t) (a .n) (lines (drop (a .at) (a .s .now))) (r .fault) (put t) (r .line) (r .next) (t .tables-into .ensures .0) (c .before .before .before .before .before .if1 .left)
 
-same-length-2 : tie.Need-same-length-2
-same-length-2 c = search needs
-
-same-length-3 : tie.Need-same-length-3
-same-length-3 c = search needs
-
 returns-2 : tie.Need-returns-2
 returns-2 c =
     let o = c .before in
@@ -96,12 +75,6 @@ returns-2 c =
     let a = begun t .args in
     let r = t .tables-into .result in
     opened-refused (a .s .now) (a .n) (a .at) (all t) (opens t (put t)) (r .line) (r .next) (found-is o) (a .state .now) (state o) (state-is o) (o .outcome-number .result) (number-is o) (c .if2 .taken)
-
-same-length-4 : tie.Need-same-length-4
-same-length-4 c = search needs
-
-same-length-5 : tie.Need-same-length-5
-same-length-5 c = search needs
 
 returns-3 : tie.Need-returns-3
 unfolding openingIn
@@ -115,17 +88,5 @@ returns-3 c =
 
 pub opened-in-spec : {M : Type 1} → statement M
 opened-in-spec =
-    tie.close
-    (tie.spec
-    tables-into-requires
-    faulty-line-requires
-    same-length
-    returns
-    open-into-requires
-    outcome-number-requires
-    same-length-2
-    same-length-3
-    returns-2
-    same-length-4
-    same-length-5
-    returns-3)
+    tie.close (tie.spec (λ c κs. search needs) (λ c κs. search needs) (λ c. search needs) returns (λ c κs. search needs) (λ c κs. search needs)
+    (λ c. search needs) (λ c. search needs) returns-2 (λ c. search needs) (λ c. search needs) returns-3)

@@ -10,21 +10,6 @@ use Rattle.opening_part.proofs.PartLaws.{blocks-open}
 use Rattle.opening_part.proofs.opened_small.Statement.{statement}
 use Rattle.opening_part.proofs.opened_small.Tie as tie
 
-slice-aggregate-owners-into : tie.Need-slice-aggregate-owners-into
-slice-aggregate-owners-into c = search needs
-
-owners-into-requires : tie.Need-owners-into-requires
-owners-into-requires c κs = search needs
-
-slice-aggregate-opened-in : tie.Need-slice-aggregate-opened-in
-slice-aggregate-opened-in c = search needs
-
-opened-in-requires : tie.Need-opened-in-requires
-opened-in-requires c κs = search needs
-
-same-length : tie.Need-same-length
-same-length c = search needs
-
 returns : tie.Need-returns
 returns c =
     let d = c .before .before in
@@ -38,11 +23,4 @@ returns c =
 
 pub opened-small-spec : {M : Type 1} → statement M
 opened-small-spec =
-    tie.close
-    (tie.spec
-    slice-aggregate-owners-into
-    owners-into-requires
-    slice-aggregate-opened-in
-    opened-in-requires
-    same-length
-    returns)
+    tie.close (tie.spec (λ c. search needs) (λ c κs. search needs) (λ c. search needs) (λ c κs. search needs) (λ c. search needs) returns)

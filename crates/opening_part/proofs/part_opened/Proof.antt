@@ -81,21 +81,6 @@ few t =
     omega (arith, second t .few, first (month t) .few, text-few s 0)
 
 -- ---- the needs
-slice-aggregate-line-is : tie.Need-slice-aggregate-line-is
-slice-aggregate-line-is c = search needs
-
-line-is-requires : tie.Need-line-is-requires
-line-is-requires c κs = search needs
-
-enum-known-at : tie.Need-enum-known-at
-enum-known-at c = search needs
-
-enum-told : tie.Need-enum-told
-enum-told c = search needs
-
-faulty-line-requires : tie.Need-faulty-line-requires
-faulty-line-requires c κs = search needs
-
 returns : tie.Need-returns
 returns c =
     let l = c .before .before .before in
@@ -103,12 +88,6 @@ returns c =
     let R = readOpening 0 (lines (text b)) in
     opened-first (text b) R (b .args .state .now) (b .args .state .now) (c .faulty-line .result)
     (opened-fault (text b) 0 0 R 1 (unnamed-month (text b) 0 0 (sym (c .before .enum-told .given .1) ∙ l .line-is .ensures)) (b .args .state .now) (c .faulty-line .result) (c .faulty-line .ensures))
-
-row-at-requires : tie.Need-row-at-requires
-row-at-requires c κs = search needs
-
-faulty-line-requires-2 : tie.Need-faulty-line-requires-2
-faulty-line-requires-2 c κs = search needs
 
 returns-2 : tie.Need-returns-2
 returns-2 c =
@@ -119,21 +98,6 @@ returns-2 c =
     (opened-fault (text b) 0 0 R 2
     (no-month (text b) 0 0 (past (k .before)) (named (k .before)) (not-held _ _ (k .row-at .result) (answers k) (not-true (k .row-at .result .ok) (c .before .if1 .taken))))
     (b .args .state .now) (c .faulty-line2 .result) (c .faulty-line2 .ensures))
-
-slice-aggregate-line-is-2 : tie.Need-slice-aggregate-line-is-2
-slice-aggregate-line-is-2 c = search needs
-
-line-is-requires-2 : tie.Need-line-is-requires-2
-line-is-requires-2 c κs = search needs
-
-enum-known-at-2 : tie.Need-enum-known-at-2
-enum-known-at-2 c = search needs
-
-enum-told-2 : tie.Need-enum-told-2
-enum-told-2 c = search needs
-
-faulty-line-requires-3 : tie.Need-faulty-line-requires-3
-faulty-line-requires-3 c κs = search needs
 
 returns-3 : tie.Need-returns-3
 returns-3 c =
@@ -146,26 +110,11 @@ returns-3 c =
     (unnamed-portfolios (text b) 0 0 (cell 0 (holds i .x)) 2 (read i .row-at .result .next) (first i) (sym (c .before .enum-told2 .given .1) ∙ l .line-is2 .ensures))
     (b .args .state .now) (c .faulty-line3 .result) (c .faulty-line3 .ensures))
 
-slice-aggregate-marks-at : tie.Need-slice-aggregate-marks-at
-slice-aggregate-marks-at c = search needs
-
-marks-at-requires : tie.Need-marks-at-requires
-marks-at-requires c κs = search needs
-
 add-opened-after : tie.Need-add-opened-after
 add-opened-after c = let t = c .before .before in let f = few t in omega (arith, began (month t) .good)
 
-array-copy-out-opened-after : tie.Need-array-copy-out-opened-after
-array-copy-out-opened-after c = search needs
-
-slice-aggregate-opened-after : tie.Need-slice-aggregate-opened-after
-slice-aggregate-opened-after c = search needs
-
 opened-after-requires : tie.Need-opened-after-requires
 opened-after-requires c κs = let t = c .before .before .before .before .before in omega (arith, few t)
-
-same-length : tie.Need-same-length
-same-length c = search needs
 
 returns-4 : tie.Need-returns-4
 returns-4 c =
@@ -188,28 +137,7 @@ returns-4 c =
 
 pub part-opened-spec : {M : Type 1} → statement M
 part-opened-spec =
-    tie.close
-    (tie.spec
-    slice-aggregate-line-is
-    line-is-requires
-    enum-known-at
-    enum-told
-    faulty-line-requires
-    returns
-    row-at-requires
-    faulty-line-requires-2
-    returns-2
-    slice-aggregate-line-is-2
-    line-is-requires-2
-    enum-known-at-2
-    enum-told-2
-    faulty-line-requires-3
-    returns-3
-    slice-aggregate-marks-at
-    marks-at-requires
-    add-opened-after
-    array-copy-out-opened-after
-    slice-aggregate-opened-after
-    opened-after-requires
-    same-length
-    returns-4)
+    tie.close (tie.spec (λ c. search needs) (λ c κs. search needs) (λ c. search needs) (λ c. search needs) (λ c κs. search needs) returns
+    (λ c κs. search needs) (λ c κs. search needs) returns-2 (λ c. search needs) (λ c κs. search needs) (λ c. search needs) (λ c. search needs)
+    (λ c κs. search needs) returns-3 (λ c. search needs) (λ c κs. search needs) add-opened-after (λ c. search needs) (λ c. search needs)
+    opened-after-requires (λ c. search needs) returns-4)

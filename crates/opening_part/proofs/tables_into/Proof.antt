@@ -129,24 +129,6 @@ alone : (n at before : ℕ) (ls : List (List ℕ)) (r : Charges) → r ≡ recor
 alone n at before ls r e = ap (λ (x : Charges). x .next) e ∙ no-next n at (0 - before) ls ∙ sym (ap (λ (x : Charges). nextAfter (x .fault) at (x .line - before) ls) e)
 
 -- ---- the needs
-slice-aggregate-line-is : tie.Need-slice-aggregate-line-is
-slice-aggregate-line-is c = search needs
-
-line-is-requires : tie.Need-line-is-requires
-line-is-requires c κs = search needs
-
-enum-known-at : tie.Need-enum-known-at
-enum-known-at c = search needs
-
-enum-told : tie.Need-enum-told
-enum-told c = search needs
-
-add-no-tables : tie.Need-add-no-tables
-add-no-tables c = search needs
-
-no-tables-requires : tie.Need-no-tables-requires
-no-tables-requires c κs = search needs
-
 returns : tie.Need-returns
 returns c =
     let l = c .before .before .before in
@@ -158,32 +140,14 @@ returns c =
       alone (a .n) (a .at) (a .n) (lines (drop (a .at) (text b))) (r .result) (r .ensures),
     )
 
-add-groups-into : tie.Need-add-groups-into
-add-groups-into c = search needs
-
 groups-into-requires : tie.Need-groups-into-requires
 groups-into-requires c κs = let k = c .before in let h = few1 k in (omega arith, start1 k .pre .1, omega arith)
-
-slice-aggregate-line-is-2 : tie.Need-slice-aggregate-line-is-2
-slice-aggregate-line-is-2 c = search needs
-
-line-is-requires-2 : tie.Need-line-is-requires-2
-line-is-requires-2 c κs = search needs
-
-enum-known-at-2 : tie.Need-enum-known-at-2
-enum-known-at-2 c = search needs
-
-enum-told-2 : tie.Need-enum-told-2
-enum-told-2 c = search needs
 
 add-no-tables-2 : tie.Need-add-no-tables-2
 add-no-tables-2 c =
     let j = c .before .before .before .before .before .before in
     let h = few-lines1 j in
     omega (arith, begun j .good)
-
-no-tables-requires-2 : tie.Need-no-tables-requires-2
-no-tables-requires-2 c κs = search needs
 
 same-length : tie.Need-same-length
 same-length c = let j = c .before .before .before .before .before .before .before in ap length (one j .keeps) ∙ blocks-length groupCells stepsFrom 0 (begun j .args .blocks .now) (one j .gs)
@@ -208,26 +172,11 @@ add-groups-into-2 c = let k = c .before in let h = few2 k in omega (arith, begun
 groups-into-requires-2 : tie.Need-groups-into-requires-2
 groups-into-requires-2 c κs = let k = c .before .before in let h = few2 k in (omega arith, long1 (first k), omega arith)
 
-slice-aggregate-line-is-3 : tie.Need-slice-aggregate-line-is-3
-slice-aggregate-line-is-3 c = search needs
-
-line-is-requires-3 : tie.Need-line-is-requires-3
-line-is-requires-3 c κs = search needs
-
-enum-known-at-3 : tie.Need-enum-known-at-3
-enum-known-at-3 c = search needs
-
-enum-told-3 : tie.Need-enum-told-3
-enum-told-3 c = search needs
-
 add-no-tables-3 : tie.Need-add-no-tables-3
 add-no-tables-3 c =
     let h = c .before .before .before .before .before .before in
     let f = few-lines2 h in
     omega (arith, begun2 h .good)
-
-no-tables-requires-3 : tie.Need-no-tables-requires-3
-no-tables-requires-3 c κs = search needs
 
 long-two : (h : tie.After-groups-into2) → length (put2 h) ≡ length (begun2 h .args .blocks .now)
 long-two h =
@@ -272,9 +221,6 @@ add-charges-into c = let k = c .before in let h = few3 k in omega (arith, begun2
 charges-into-requires : tie.Need-charges-into-requires
 charges-into-requires c κs = let k = c .before .before in let h = few3 k in (omega arith, long2 (second k), omega arith)
 
-same-length-3 : tie.Need-same-length-3
-same-length-3 c = search needs
-
 returns-4 : tie.Need-returns-4
 returns-4 c =
     let d = c .before in
@@ -298,36 +244,8 @@ returns-4 c =
 
 pub tables-into-spec : {M : Type 1} → statement M
 tables-into-spec =
-    tie.close
-    (tie.spec
-    slice-aggregate-line-is
-    line-is-requires
-    enum-known-at
-    enum-told
-    add-no-tables
-    no-tables-requires
-    returns
-    add-groups-into
-    groups-into-requires
-    slice-aggregate-line-is-2
-    line-is-requires-2
-    enum-known-at-2
-    enum-told-2
-    add-no-tables-2
-    no-tables-requires-2
-    same-length
-    returns-2
-    add-groups-into-2
-    groups-into-requires-2
-    slice-aggregate-line-is-3
-    line-is-requires-3
-    enum-known-at-3
-    enum-told-3
-    add-no-tables-3
-    no-tables-requires-3
-    same-length-2
-    returns-3
-    add-charges-into
-    charges-into-requires
-    same-length-3
-    returns-4)
+    tie.close (tie.spec (λ c. search needs) (λ c κs. search needs) (λ c. search needs) (λ c. search needs) (λ c. search needs) (λ c κs. search needs)
+    returns (λ c. search needs) groups-into-requires (λ c. search needs) (λ c κs. search needs) (λ c. search needs) (λ c. search needs)
+    add-no-tables-2 (λ c κs. search needs) same-length returns-2 add-groups-into-2 groups-into-requires-2 (λ c. search needs) (λ c κs. search needs)
+    (λ c. search needs) (λ c. search needs) add-no-tables-3 (λ c κs. search needs) same-length-2 returns-3 add-charges-into charges-into-requires
+    (λ c. search needs) returns-4)

@@ -36,7 +36,8 @@ named : (c : tie.After-put-names) → Putting (c .before .before .before .before
 unfolding refusalText
 named c =
     let s = c .before .before .before .before .before .before in
-    putting-next (putting-start (s .args .out .now) (s .args .at) (text s)) (bytes "refusal line\n") (lineText (values s)) (c .put-names .last .0) (c .put-names .result) refl (c .put-names .ensures .0) (c .put-names .ensures .1)
+    let e = c .put-names .ensures .1 .1 (omega (arith, room (c .before .before .before))) in
+    putting-next (putting-start (s .args .out .now) (s .args .at) (text s)) (bytes "refusal line\n") (lineText (values s)) (c .put-names .last .0) (c .put-names .result) refl (e .0) (e .1)
 
 -- the line of values, at the numbers themselves
 put : (c : tie.After-print-line)
@@ -49,32 +50,11 @@ put c =
     let fb = came (p2 .printable2 .result) (p2 .printable2 .ok) ∙ p2 .printable2 .ensures in
     (simp (fa, fb) at (c .print-line .ensures .0), simp (fa, fb) at (c .print-line .ensures .1))
 
-has-room-requires : tie.Need-has-room-requires
-has-room-requires c κs = search needs
-
 returns : tie.Need-returns
 returns c =
     let r = c .before in
     let s = r .before .before in
     within-none refusalRoom (s .args .out .now) (s .args .at) (text s) (sym (r .has-room .ensures) ∙ not-true (r .has-room .result) (c .if1 .taken))
-
-slice-aggregate-put-names : tie.Need-slice-aggregate-put-names
-slice-aggregate-put-names c = search needs
-
-put-names-requires : tie.Need-put-names-requires
-put-names-requires c κs = omega (arith, room (c .before .before))
-
-printable-requires : tie.Need-printable-requires
-printable-requires c κs = search needs
-
-printable-requires-2 : tie.Need-printable-requires-2
-printable-requires-2 c κs = search needs
-
-print-line-requires : tie.Need-print-line-requires
-print-line-requires c κs = search needs
-
-same-length : tie.Need-same-length
-same-length c = search needs
 
 returns-2 : tie.Need-returns-2
 returns-2 c =
@@ -85,7 +65,8 @@ returns-2 c =
     let k = named n in
     let w = put p in
     let few = line-few (values s) in
-    let fits : n .put-names .result + length (lineText (values s)) ≤ length (n .put-names .last .0) = omega (arith, room e, k .long, n .put-names .ensures .1) in
+    let after = n .put-names .ensures .1 .1 (omega (arith, room e)) .1 in
+    let fits : n .put-names .result + length (lineText (values s)) ≤ length (n .put-names .last .0) = omega (arith, room e, k .long, after) in
     let b = put-both (n .put-names .last .0) (n .put-names .result) (lineText (values s)) (p .print-line .last .0) (p .print-line .result) fits (w .0) (w .1) in
     let d = putting-done (putting-next k (lineText (values s)) [] (p .print-line .last .0) (n .put-names .result + length (lineText (values s))) (sym (append-nil (lineText (values s)))) (b .0) refl) refl in
     let r = within-some refusalRoom (s .args .out .now) (s .args .at) (text s) (p .print-line .last .0) (n .put-names .result + length (lineText (values s))) (holds e) (d .0) (d .1) in
@@ -93,14 +74,5 @@ returns-2 c =
 
 pub print-refusal-spec : {M : Type 1} → statement M
 print-refusal-spec =
-    tie.close
-    (tie.spec
-    has-room-requires
-    returns
-    slice-aggregate-put-names
-    put-names-requires
-    printable-requires
-    printable-requires-2
-    print-line-requires
-    same-length
-    returns-2)
+    tie.close (tie.spec (λ c κs. search needs) returns (λ c. search needs) (λ c κs. search needs) (λ c κs. search needs) (λ c κs. search needs)
+    (λ c κs. search needs) (λ c. search needs) returns-2)

@@ -68,18 +68,6 @@ verdicts c k =
     let v = lent (w .before) in
     verdictOf (pathOf (shadowAt v k) (v .factors) (v .dispatch) (v .available) (v .floor) (c .before .portfolio-in .result) (c .seller-in .result) (w .whole-at .result) k)
 
-whole-at-requires : tie.Need-whole-at-requires Inv-loop μ-loop
-whole-at-requires c κs = search needs
-
-checked-requires : tie.Need-checked-requires Inv-loop μ-loop
-checked-requires c κs = search needs
-
-enum-told : tie.Need-enum-told Inv-loop μ-loop
-enum-told c = search needs
-
-enum-told-2 : tie.Need-enum-told-2 Inv-loop μ-loop
-enum-told-2 c = search needs
-
 returns : tie.Need-returns Inv-loop μ-loop
 returns c =
     let d = c .before .before in
@@ -90,9 +78,6 @@ returns c =
 
 portfolio-in-requires : tie.Need-portfolio-in-requires Inv-loop μ-loop
 portfolio-in-requires c κs = resources-few c
-
-seller-in-requires : tie.Need-seller-in-requires Inv-loop μ-loop
-seller-in-requires c κs = search needs
 
 loop-holds : tie.Need-loop-holds Inv-loop μ-loop
 loop-holds c = (omega arith, puts-begin _ _ _)
@@ -119,15 +104,6 @@ judge-requires c κs =
 
 mul-put-verdict : tie.Need-mul-put-verdict Inv-loop μ-loop
 mul-put-verdict c = omega (arith, few (c .before .before .before .before .before))
-
-put-verdict-requires : tie.Need-put-verdict-requires Inv-loop μ-loop
-put-verdict-requires c κs = search needs
-
-add-c : tie.Need-add-c Inv-loop μ-loop
-add-c c = search needs
-
-loop-less : tie.Need-loop-less Inv-loop μ-loop
-loop-less c = search needs
 
 loop-again : tie.Need-loop-again Inv-loop μ-loop
 loop-again c =
@@ -159,24 +135,6 @@ returns-2 c =
 
 pub judged-into-spec : {M : Type 1} → statement M
 judged-into-spec =
-    tie.close
-    (tie.spec
-    Inv-loop
-    μ-loop
-    whole-at-requires
-    checked-requires
-    enum-told
-    enum-told-2
-    returns
-    portfolio-in-requires
-    seller-in-requires
-    loop-holds
-    mul-judge
-    element-copy-out-judge
-    judge-requires
-    mul-put-verdict
-    put-verdict-requires
-    add-c
-    loop-less
-    loop-again
-    returns-2)
+    tie.close (tie.spec Inv-loop μ-loop (λ c κs. search needs) (λ c κs. search needs) (λ c. search needs) (λ c. search needs) returns
+    portfolio-in-requires (λ c κs. search needs) loop-holds mul-judge element-copy-out-judge judge-requires mul-put-verdict (λ c κs. search needs)
+    (λ c. search needs) (λ c. search needs) loop-again returns-2)

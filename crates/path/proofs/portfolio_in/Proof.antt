@@ -22,27 +22,6 @@ loop-holds : tie.Need-loop-holds Inv-loop μ-loop
 unfolding padded listed
 loop-holds c = (omega arith, refl)
 
-add-whole-at : tie.Need-add-whole-at Inv-loop μ-loop
-add-whole-at c = search needs
-
-add-whole-at-2 : tie.Need-add-whole-at-2 Inv-loop μ-loop
-add-whole-at-2 c = search needs
-
-whole-at-requires : tie.Need-whole-at-requires Inv-loop μ-loop
-whole-at-requires c κs = search needs
-
-mul-portfolio : tie.Need-mul-portfolio Inv-loop μ-loop
-mul-portfolio c = search needs
-
-array-write-portfolio : tie.Need-array-write-portfolio Inv-loop μ-loop
-array-write-portfolio c = search needs
-
-add-r : tie.Need-add-r Inv-loop μ-loop
-add-r c = search needs
-
-loop-less : tie.Need-loop-less Inv-loop μ-loop
-loop-less c = search needs
-
 loop-again : tie.Need-loop-again Inv-loop μ-loop
 loop-again c =
     let l = c .before .before in
@@ -60,17 +39,5 @@ returns c =
 
 pub portfolio-in-spec : {M : Type 1} → statement M
 portfolio-in-spec =
-    tie.close
-    (tie.spec
-    Inv-loop
-    μ-loop
-    loop-holds
-    add-whole-at
-    add-whole-at-2
-    whole-at-requires
-    mul-portfolio
-    array-write-portfolio
-    add-r
-    loop-less
-    loop-again
-    returns)
+    tie.close (tie.spec Inv-loop μ-loop loop-holds (λ c. search needs) (λ c. search needs) (λ c κs. search needs) (λ c. search needs)
+    (λ c. search needs) (λ c. search needs) (λ c. search needs) loop-again returns)

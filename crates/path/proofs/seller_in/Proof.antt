@@ -22,30 +22,6 @@ loop-holds : tie.Need-loop-holds Inv-loop μ-loop
 unfolding padded listed
 loop-holds c = (omega arith, refl)
 
-add-whole-at : tie.Need-add-whole-at Inv-loop μ-loop
-add-whole-at c = search needs
-
-add-whole-at-2 : tie.Need-add-whole-at-2 Inv-loop μ-loop
-add-whole-at-2 c = search needs
-
-add-whole-at-3 : tie.Need-add-whole-at-3 Inv-loop μ-loop
-add-whole-at-3 c = search needs
-
-whole-at-requires : tie.Need-whole-at-requires Inv-loop μ-loop
-whole-at-requires c κs = search needs
-
-mul-seller : tie.Need-mul-seller Inv-loop μ-loop
-mul-seller c = search needs
-
-array-write-seller : tie.Need-array-write-seller Inv-loop μ-loop
-array-write-seller c = search needs
-
-add-p : tie.Need-add-p Inv-loop μ-loop
-add-p c = search needs
-
-loop-less : tie.Need-loop-less Inv-loop μ-loop
-loop-less c = search needs
-
 loop-again : tie.Need-loop-again Inv-loop μ-loop
 loop-again c =
     let l = c .before .before in
@@ -63,18 +39,5 @@ returns c =
 
 pub seller-in-spec : {M : Type 1} → statement M
 seller-in-spec =
-    tie.close
-    (tie.spec
-    Inv-loop
-    μ-loop
-    loop-holds
-    add-whole-at
-    add-whole-at-2
-    add-whole-at-3
-    whole-at-requires
-    mul-seller
-    array-write-seller
-    add-p
-    loop-less
-    loop-again
-    returns)
+    tie.close (tie.spec Inv-loop μ-loop loop-holds (λ c. search needs) (λ c. search needs) (λ c. search needs) (λ c κs. search needs)
+    (λ c. search needs) (λ c. search needs) (λ c. search needs) (λ c. search needs) loop-again returns)

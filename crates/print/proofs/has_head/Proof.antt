@@ -13,14 +13,8 @@ returns c = (λ z. never z, (λ z. never z, λ z. never z))
 returns-2 : tie.Need-returns-2
 returns-2 c = (λ z. never z, (λ z. never z, λ z. never z))
 
-is-below-requires : tie.Need-is-below-requires
-is-below-requires c κs = search needs
-
 returns-3 : tie.Need-returns-3
 returns-3 c = (λ z. never z, (λ z. never z, λ z. never z))
-
-is-below-requires-2 : tie.Need-is-below-requires-2
-is-below-requires-2 c κs = search needs
 
 returns-4 : tie.Need-returns-4
 returns-4 c =
@@ -35,5 +29,4 @@ returns-4 c =
 
 pub has-head-spec : {M : Type 1} → statement M
 has-head-spec =
-    tie.close
-    (tie.spec returns returns-2 is-below-requires returns-3 is-below-requires-2 returns-4)
+    tie.close (tie.spec returns returns-2 (λ c κs. search needs) returns-3 (λ c κs. search needs) returns-4)

@@ -12,9 +12,6 @@ use Rattle.print.proofs.is_below.Tie as tie
 returns : tie.Need-returns
 returns c = λ z. never z
 
-magnitude-requires : tie.Need-magnitude-requires
-magnitude-requires c κs = search needs
-
 returns-2 : tie.Need-returns-2
 returns-2 c =
     let s = c .before .before in
@@ -22,4 +19,4 @@ returns-2 c =
     λ z. (rw f at (c .before .if1 .left), subst (λ (k : ℕ). k < s .args .n) (c .magnitude .ensures ∙ ap natAbs f) (ltb-true (c .magnitude .result) (s .args .n) z))
 
 pub is-below-spec : {M : Type 1} → statement M
-is-below-spec = tie.close (tie.spec returns magnitude-requires returns-2)
+is-below-spec = tie.close (tie.spec returns (λ c κs. search needs) returns-2)

@@ -11,9 +11,6 @@ use Rattle.rules_text.proofs.PrintLaws.{line-few}
 use Rattle.print.proofs.line_fits.Statement.{statement}
 use Rattle.print.proofs.line_fits.Tie as tie
 
-has-room-requires : tie.Need-has-room-requires
-has-room-requires c κs = search needs
-
 returns : tie.Need-returns
 returns c =
     let r = c .before in
@@ -26,9 +23,6 @@ returns c =
 line-width-requires : tie.Need-line-width-requires
 line-width-requires c κs = c .before .before .pre
 
-has-room-requires-2 : tie.Need-has-room-requires-2
-has-room-requires-2 c κs = search needs
-
 returns-2 : tie.Need-returns-2
 returns-2 c =
     let w = c .before in
@@ -36,4 +30,5 @@ returns-2 c =
     c .has-room2 .ensures ∙ ap (λ (n : ℕ). leb (a .at + n) (a .size)) (w .line-width .ensures)
 
 pub line-fits-spec : {M : Type 1} → statement M
-line-fits-spec = tie.close (tie.spec has-room-requires returns line-width-requires has-room-requires-2 returns-2)
+line-fits-spec =
+    tie.close (tie.spec (λ c κs. search needs) returns line-width-requires (λ c κs. search needs) returns-2)

@@ -27,15 +27,6 @@ long c =
     let n : length (c .before .args .t1) ≡ 5 = search needs in
     first-length (c .before .args .t1) (c .before .args .k) n (c .before .pre)
 
-mul-x : tie.Need-mul-x Inv-loop μ-loop
-mul-x c = omega arith
-
-array-copy-out-x : tie.Need-array-copy-out-x Inv-loop μ-loop
-array-copy-out-x c = omega arith
-
-number-width-requires : tie.Need-number-width-requires Inv-loop μ-loop
-number-width-requires c κs = search needs
-
 -- the width that is added is the value's
 sized : (c : tie.After-number-width Inv-loop μ-loop)
     → c .number-width .result ≡ length (decimal (getD (take (c .before .before .before .before .args .k) (c .before .before .before .before .args .t1)) (c .before .before .before .loop .i) (pos 0)))
@@ -57,12 +48,6 @@ add-width-2 c =
     let a = l .before .args in
     omega (arith, sized c, decimal-few (getD (take (a .k) (a .t1)) (l .loop .i) (pos 0)), l .loop .inv .small)
 
-add-i : tie.Need-add-i Inv-loop μ-loop
-add-i c = omega arith
-
-loop-less : tie.Need-loop-less Inv-loop μ-loop
-loop-less c = omega arith
-
 loop-again : tie.Need-loop-again Inv-loop μ-loop
 loop-again c =
     let l = c .before .before .before in
@@ -77,17 +62,5 @@ returns c =
 
 pub line-width-spec : {M : Type 1} → statement M
 line-width-spec =
-    tie.close
-    (tie.spec
-    Inv-loop
-    μ-loop
-    loop-holds
-    mul-x
-    array-copy-out-x
-    number-width-requires
-    add-width
-    add-width-2
-    add-i
-    loop-less
-    loop-again
-    returns)
+    tie.close (tie.spec Inv-loop μ-loop loop-holds (λ c. omega arith) (λ c. omega arith) (λ c κs. search needs) add-width add-width-2
+    (λ c. omega arith) (λ c. omega arith) loop-again returns)

@@ -54,8 +54,6 @@ cast-result-2 c =
     let f = came x m in
     rw f (id-cast x m (rw f at (c .if1 .left)))
 
-returns-2 : tie.Need-returns-2
-returns-2 c = search needs
-
 pub magnitude-spec : {M : Type 1} → statement M
-magnitude-spec = tie.close (tie.spec add-result sub-result cast-result add-result-2 returns cast-result-2 returns-2)
+magnitude-spec =
+    tie.close (tie.spec add-result sub-result cast-result add-result-2 returns cast-result-2 (λ c. search needs))

@@ -15,9 +15,6 @@ use Rattle.print.proofs.number_width.Tie as tie
 sized : (c : tie.After-magnitude) → c .magnitude .result ≡ natAbs (c .before .args .x)
 sized c = c .magnitude .ensures ∙ ap natAbs (came (c .before .args .x) (c .before .fits .x .sfits))
 
-magnitude-requires : tie.Need-magnitude-requires
-magnitude-requires c κs = search needs
-
 digit-count-requires : tie.Need-digit-count-requires
 digit-count-requires c κs = omega (arith, sized c, abs-small (c .before .args .x) (c .before .fits .x .sfits))
 
@@ -41,4 +38,5 @@ returns-2 c =
     ∙ sym (ap length (decimal-plus x (rw (came x (m .before .fits .x .sfits)) at (c .if1 .left))))
 
 pub number-width-spec : {M : Type 1} → statement M
-number-width-spec = tie.close (tie.spec magnitude-requires digit-count-requires add-result returns returns-2)
+number-width-spec =
+    tie.close (tie.spec (λ c κs. search needs) digit-count-requires add-result returns returns-2)

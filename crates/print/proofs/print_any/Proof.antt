@@ -13,9 +13,6 @@ use Rattle.rules_text.proofs.PrintLaws.{prints, prints-none, first-most}
 use Rattle.print.proofs.print_any.Statement.{statement}
 use Rattle.print.proofs.print_any.Tie as tie
 
-at-most-requires : tie.Need-at-most-requires
-at-most-requires c κs = search needs
-
 line-fits-requires : tie.Need-line-fits-requires
 line-fits-requires c κs = omega (arith, c .at-most .ensures)
 
@@ -45,9 +42,6 @@ put-line-requires c κs =
           (ap (λ (l : List ℕ). leb (a .at + length l) (length (a .out .now))) (same r) ∙ sym (tests r) ∙ not-false (r .line-fits .result) (c .before .if1 .left)),
     )
 
-same-length : tie.Need-same-length
-same-length c = search needs
-
 returns-2 : tie.Need-returns-2
 returns-2 c =
     let p = c .before .before in
@@ -57,4 +51,5 @@ returns-2 c =
     (p .put-line .ensures .0 ∙ ap (sets (a .out .now) (a .at)) (same r)) (p .put-line .ensures .1 ∙ ap (λ (l : List ℕ). a .at + length l) (same r))
 
 pub print-any-spec : {M : Type 1} → statement M
-print-any-spec = tie.close (tie.spec at-most-requires line-fits-requires returns put-line-requires same-length returns-2)
+print-any-spec =
+    tie.close (tie.spec (λ c κs. search needs) line-fits-requires returns put-line-requires (λ c. search needs) returns-2)

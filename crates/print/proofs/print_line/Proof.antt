@@ -36,53 +36,11 @@ same c =
     ∙ ap₂ (λ (i j : ℤ). x ∷ y ∷ i ∷ j ∷ []) (came (getD v 2 (pos 0)) (h .before .before .c .given)) (came (getD v 3 (pos 0)) (h .before .d .given))
     ∙ sym (first-four v n) ∙ ap (λ (j : ℕ). take j v) (sym (h .before .before .before .before .before .if1 .left))
 
-print-any-requires : tie.Need-print-any-requires
-print-any-requires c κs = search needs
-
-same-length : tie.Need-same-length
-same-length c = search needs
-
-returns : tie.Need-returns
-returns c = search needs
-
-array-copy-out-a : tie.Need-array-copy-out-a
-array-copy-out-a c = search needs
-
-array-copy-out-b : tie.Need-array-copy-out-b
-array-copy-out-b c = search needs
-
-array-copy-out-c : tie.Need-array-copy-out-c
-array-copy-out-c c = search needs
-
-array-copy-out-d : tie.Need-array-copy-out-d
-array-copy-out-d c = search needs
-
-has-head-requires : tie.Need-has-head-requires
-has-head-requires c κs = search needs
-
-print-any-requires-2 : tie.Need-print-any-requires-2
-print-any-requires-2 c κs = search needs
-
-same-length-2 : tie.Need-same-length-2
-same-length-2 c = search needs
-
-returns-2 : tie.Need-returns-2
-returns-2 c = search needs
-
-magnitude-requires : tie.Need-magnitude-requires
-magnitude-requires c κs = search needs
-
-magnitude-requires-2 : tie.Need-magnitude-requires-2
-magnitude-requires-2 c κs = search needs
-
 put-step-requires : tie.Need-put-step-requires
 put-step-requires c κs =
     let h = c .before .before .before .before in
     let t = not-false (h .has-head .result) (c .before .before .before .if2 .left) in
     (omega (arith, c .before .magnitude .ensures, h .has-head .ensures .1 .0 t .1), omega (arith, c .magnitude2 .ensures, h .has-head .ensures .1 .1 t .1), h .has-head .ensures .0 t)
-
-same-length-3 : tie.Need-same-length-3
-same-length-3 c = search needs
 
 returns-3 : tie.Need-returns-3
 returns-3 c =
@@ -101,21 +59,6 @@ returns-3 c =
 
 pub print-line-spec : {M : Type 1} → statement M
 print-line-spec =
-    tie.close
-    (tie.spec
-    print-any-requires
-    same-length
-    returns
-    array-copy-out-a
-    array-copy-out-b
-    array-copy-out-c
-    array-copy-out-d
-    has-head-requires
-    print-any-requires-2
-    same-length-2
-    returns-2
-    magnitude-requires
-    magnitude-requires-2
-    put-step-requires
-    same-length-3
-    returns-3)
+    tie.close (tie.spec (λ c κs. search needs) (λ c. search needs) (λ c. search needs) (λ c. search needs) (λ c. search needs) (λ c. search needs)
+    (λ c. search needs) (λ c κs. search needs) (λ c κs. search needs) (λ c. search needs) (λ c. search needs) (λ c κs. search needs)
+    (λ c κs. search needs) put-step-requires (λ c. search needs) returns-3)

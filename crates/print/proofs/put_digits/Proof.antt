@@ -14,9 +14,6 @@ Inv-loop out₀ at n count left₀ rest₀ out left rest = Putting out₀ at n o
 abbrev μ-loop : tie.MeasureT-loop
 μ-loop out₀ at n count left₀ rest₀ out left rest = left
 
-digit-count-requires : tie.Need-digit-count-requires Inv-loop μ-loop
-digit-count-requires c κs = search needs
-
 loop-holds : tie.Need-loop-holds Inv-loop μ-loop
 loop-holds c =
     let s = c .before .before in
@@ -30,9 +27,6 @@ room l = omega (arith, l .loop .inv .high, l .loop .inv .long, l .before .before
 single : (c : tie.Else1 Inv-loop μ-loop) → c .before .before .loop .left ≡ 1
 single c = omega (arith, c .before .loop-test .left, c .if1 .left)
 
-tens-requires : tie.Need-tens-requires Inv-loop μ-loop
-tens-requires c κs = omega arith
-
 mul-digit : tie.Need-mul-digit Inv-loop μ-loop
 mul-digit c = omega (arith, c .tens .ensures)
 
@@ -45,9 +39,6 @@ digit-requires c κs = omega (arith, c .tens .ensures)
 add-out : tie.Need-add-out Inv-loop μ-loop
 add-out c = omega (arith, room (c .before .before .before))
 
-sub-out : tie.Need-sub-out Inv-loop μ-loop
-sub-out c = omega arith
-
 slice-write-out : tie.Need-slice-write-out Inv-loop μ-loop
 slice-write-out c = omega (arith, room (c .before .before .before))
 
@@ -57,19 +48,10 @@ digit-requires-2 c κs = omega (arith, c .before .tens .ensures)
 add-out-2 : tie.Need-add-out-2 Inv-loop μ-loop
 add-out-2 c = omega (arith, room (c .before .before .before .before))
 
-sub-out-2 : tie.Need-sub-out-2 Inv-loop μ-loop
-sub-out-2 c = omega arith
-
 slice-write-out-2 : tie.Need-slice-write-out-2 Inv-loop μ-loop
 slice-write-out-2 c =
     let l = c .before .before .before .before in
     omega (arith, room l, length-set (l .loop .out) (l .before .before .before .args .at + l .loop .left - 1) (c .before .digit .result))
-
-sub-left : tie.Need-sub-left Inv-loop μ-loop
-sub-left c = omega arith
-
-loop-less : tie.Need-loop-less Inv-loop μ-loop
-loop-less c = omega arith
 
 loop-again : tie.Need-loop-again Inv-loop μ-loop
 loop-again c =
@@ -113,31 +95,6 @@ returns-2 c =
 
 pub put-digits-spec : {M : Type 1} → statement M
 put-digits-spec =
-    tie.close
-    (tie.spec
-    Inv-loop
-    μ-loop
-    digit-count-requires
-    loop-holds
-    tens-requires
-    mul-digit
-    sub-digit
-    digit-requires
-    add-out
-    sub-out
-    slice-write-out
-    digit-requires-2
-    add-out-2
-    sub-out-2
-    slice-write-out-2
-    sub-left
-    loop-less
-    loop-again
-    add-result
-    same-length
-    returns
-    digit-requires-3
-    slice-write-out-3
-    add-result-2
-    same-length-2
-    returns-2)
+    tie.close (tie.spec Inv-loop μ-loop (λ c κs. search needs) loop-holds (λ c κs. omega arith) mul-digit sub-digit digit-requires add-out
+    (λ c. omega arith) slice-write-out digit-requires-2 add-out-2 (λ c. omega arith) slice-write-out-2 (λ c. omega arith) (λ c. omega arith)
+    loop-again add-result same-length returns digit-requires-3 slice-write-out-3 add-result-2 same-length-2 returns-2)

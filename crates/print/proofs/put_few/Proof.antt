@@ -16,25 +16,10 @@ two p = two-digits (p .before .before .before .before .before .args .n) (p .befo
 three : (d : tie.After-digit2) → let n = d .before .before .before .before .before .args .n in digits 19 n ≡ (48 + n / 100) ∷ (48 + n / 10 % 10) ∷ (48 + n % 10) ∷ []
 three d = three-digits (d .before .before .before .before .before .args .n) (d .before .before .if2 .left) (d .before .if3 .taken)
 
-digit-requires : tie.Need-digit-requires
-digit-requires c κs = search needs
-
-slice-write-out : tie.Need-slice-write-out
-slice-write-out c = search needs
-
-add-out : tie.Need-add-out
-add-out c = search needs
-
 slice-write-out-2 : tie.Need-slice-write-out-2
 slice-write-out-2 c =
     let a = c .before .before .before .args in
     omega (arith, length-set (a .out .now) (a .at) (c .digit .result), ap length (one-digit (a .n) (c .before .if1 .taken)))
-
-add-result : tie.Need-add-result
-add-result c = search needs
-
-same-length : tie.Need-same-length
-same-length c = search needs
 
 returns : tie.Need-returns
 returns c =
@@ -45,17 +30,8 @@ returns c =
 put-two-requires : tie.Need-put-two-requires
 put-two-requires c κs = (c .before .if2 .taken, omega (arith, ap length (two-digits (c .before .before .before .before .args .n) (c .before .before .if1 .left) (c .before .if2 .taken))))
 
-add-out-2 : tie.Need-add-out-2
-add-out-2 c = search needs
-
 slice-write-out-3 : tie.Need-slice-write-out-3
 slice-write-out-3 c = let p = c .before .before in omega (arith, p .put-two .kept .0, ap length (two p))
-
-add-result-2 : tie.Need-add-result-2
-add-result-2 c = search needs
-
-same-length-2 : tie.Need-same-length-2
-same-length-2 c = search needs
 
 returns-2 : tie.Need-returns-2
 returns-2 c =
@@ -63,28 +39,10 @@ returns-2 c =
     let a = p .before .before .before .before .before .args in
     ends (a .out .now) (p .put-two .last .0) (a .at) (a .at + 2) (a .at + 3) (a .n) (a .end) ((48 + a .n / 10) ∷ (48 + a .n % 10) ∷ []) (two p) (p .put-two .ensures) refl (omega arith)
 
-digit-requires-2 : tie.Need-digit-requires-2
-digit-requires-2 c κs = search needs
-
-slice-write-out-4 : tie.Need-slice-write-out-4
-slice-write-out-4 c = search needs
-
-add-put-two : tie.Need-add-put-two
-add-put-two c = search needs
-
-mul-put-two : tie.Need-mul-put-two
-mul-put-two c = search needs
-
-sub-put-two : tie.Need-sub-put-two
-sub-put-two c = search needs
-
 put-two-requires-2 : tie.Need-put-two-requires-2
 put-two-requires-2 c κs =
     let a = c .before .before .before .before .before .before .args in
     (omega arith, omega (arith, length-set (a .out .now) (a .at) (c .before .digit2 .result), ap length (three (c .before))))
-
-add-out-3 : tie.Need-add-out-3
-add-out-3 c = search needs
 
 slice-write-out-5 : tie.Need-slice-write-out-5
 slice-write-out-5 c =
@@ -92,9 +50,6 @@ slice-write-out-5 c =
     let d = p .before .before in
     let a = d .before .before .before .before .before .args in
     omega (arith, p .put-two2 .kept .0, length-set (a .out .now) (a .at) (d .digit2 .result), ap length (three d))
-
-add-result-3 : tie.Need-add-result-3
-add-result-3 c = search needs
 
 same-length-3 : tie.Need-same-length-3
 same-length-3 c =
@@ -118,9 +73,6 @@ returns-3 c =
 put-tail-requires : tie.Need-put-tail-requires
 put-tail-requires c κs = (c .before .before .before .before .before .pre .0, omega (arith, ap length (four-digits (c .before .before .before .before .before .args .n) (c .before .if3 .left) (c .before .before .before .before .before .pre .0))))
 
-same-length-4 : tie.Need-same-length-4
-same-length-4 c = search needs
-
 returns-4 : tie.Need-returns-4
 returns-4 c =
     let p = c .before .before in
@@ -130,32 +82,7 @@ returns-4 c =
 
 pub put-few-spec : {M : Type 1} → statement M
 put-few-spec =
-    tie.close
-    (tie.spec
-    digit-requires
-    slice-write-out
-    add-out
-    slice-write-out-2
-    add-result
-    same-length
-    returns
-    put-two-requires
-    add-out-2
-    slice-write-out-3
-    add-result-2
-    same-length-2
-    returns-2
-    digit-requires-2
-    slice-write-out-4
-    add-put-two
-    mul-put-two
-    sub-put-two
-    put-two-requires-2
-    add-out-3
-    slice-write-out-5
-    add-result-3
-    same-length-3
-    returns-3
-    put-tail-requires
-    same-length-4
-    returns-4)
+    tie.close (tie.spec (λ c κs. search needs) (λ c. search needs) (λ c. search needs) slice-write-out-2 (λ c. search needs) (λ c. search needs)
+    returns put-two-requires (λ c. search needs) slice-write-out-3 (λ c. search needs) (λ c. search needs) returns-2 (λ c κs. search needs)
+    (λ c. search needs) (λ c. search needs) (λ c. search needs) (λ c. search needs) put-two-requires-2 (λ c. search needs) slice-write-out-5
+    (λ c. search needs) same-length-3 returns-3 put-tail-requires (λ c. search needs) returns-4)

@@ -8,15 +8,6 @@ use borrow.Author.Needs.{needs}
 use Rattle.print.proofs.put_four.Statement.{statement}
 use Rattle.print.proofs.put_four.Tie as tie
 
-four-requires : tie.Need-four-requires
-four-requires c κs = search needs
-
-put-word-requires : tie.Need-put-word-requires
-put-word-requires c κs = search needs
-
-same-length : tie.Need-same-length
-same-length c = search needs
-
 returns : tie.Need-returns
 returns c =
     let p = c .before .before in
@@ -26,4 +17,5 @@ returns c =
     (word-bytes (p .before .four .result) (48 + n / 1000) (48 + n / 100 % 10) (48 + n / 10 % 10) (48 + n % 10) (omega arith) (omega arith) (omega arith) (omega arith) (p .before .four .ensures))
 
 pub put-four-spec : {M : Type 1} → statement M
-put-four-spec = tie.close (tie.spec four-requires put-word-requires same-length returns)
+put-four-spec =
+    tie.close (tie.spec (λ c κs. search needs) (λ c κs. search needs) (λ c. search needs) returns)

@@ -10,35 +10,11 @@ use borrow.Author.Needs.{needs}
 use Rattle.print.proofs.put_head.Statement.{statement}
 use Rattle.print.proofs.put_head.Tie as tie
 
-head-of-requires : tie.Need-head-of-requires
-head-of-requires c κs = search needs
-
-put-word-requires : tie.Need-put-word-requires
-put-word-requires c κs = search needs
-
-add-result : tie.Need-add-result
-add-result c = search needs
-
-same-length : tie.Need-same-length
-same-length c = search needs
-
 returns : tie.Need-returns
 returns c =
     let p = c .before .before .before in
     let a = p .before .before .before .before .args in
     (p .put-word .ensures ∙ ap (sets (a .out .now) (a .at)) (head-one (p .before .head-of .result) (a .a) (a .b) (omega arith) (c .if1 .taken) (p .before .head-of .ensures .0 (c .if1 .taken))), omega (arith, ap length (one-digit (a .b) (c .if1 .taken))))
-
-add-out : tie.Need-add-out
-add-out c = search needs
-
-slice-write-out : tie.Need-slice-write-out
-slice-write-out c = search needs
-
-add-result-2 : tie.Need-add-result-2
-add-result-2 c = search needs
-
-same-length-2 : tie.Need-same-length-2
-same-length-2 c = search needs
 
 returns-2 : tie.Need-returns-2
 returns-2 c =
@@ -52,15 +28,5 @@ returns-2 c =
 
 pub put-head-spec : {M : Type 1} → statement M
 put-head-spec =
-    tie.close
-    (tie.spec
-    head-of-requires
-    put-word-requires
-    add-result
-    same-length
-    returns
-    add-out
-    slice-write-out
-    add-result-2
-    same-length-2
-    returns-2)
+    tie.close (tie.spec (λ c κs. search needs) (λ c κs. search needs) (λ c. search needs) (λ c. search needs) returns (λ c. search needs)
+    (λ c. search needs) (λ c. search needs) (λ c. search needs) returns-2)

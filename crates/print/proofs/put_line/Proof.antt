@@ -34,12 +34,6 @@ long l =
     let n : length (s .args .t3) ≡ 5 = search needs in
     first-length (s .args .t3) (s .args .k) n (s .pre .0)
 
-mul-x : tie.Need-mul-x Inv-loop μ-loop
-mul-x c = omega arith
-
-array-copy-out-x : tie.Need-array-copy-out-x Inv-loop μ-loop
-array-copy-out-x c = omega arith
-
 -- the value that is put
 value : (c : tie.After-x Inv-loop μ-loop) → rd (getD (c .before .before .before .before .args .t3) (c .before .before .loop .i) (pos 0)) ≡ getD (values (c .before .before)) (c .before .before .loop .i) (pos 0)
 value c =
@@ -58,9 +52,6 @@ sub-closing c = omega (arith, c .before .before .loop-test .taken)
 
 sub-closing-2 : tie.Need-sub-closing-2 Inv-loop μ-loop
 sub-closing-2 c = omega (arith, c .before .before .loop-test .taken)
-
-closing-requires : tie.Need-closing-requires Inv-loop μ-loop
-closing-requires c κs = search needs
 
 put-value-requires : tie.Need-put-value-requires Inv-loop μ-loop
 put-value-requires c κs = omega (arith, fits (c .before .before), ap (λ (z : ℤ). length (decimal z)) (value (c .before .before)))
@@ -98,19 +89,5 @@ returns c =
 
 pub put-line-spec : {M : Type 1} → statement M
 put-line-spec =
-    tie.close
-    (tie.spec
-    Inv-loop
-    μ-loop
-    loop-holds
-    mul-x
-    array-copy-out-x
-    sub-closing
-    sub-closing-2
-    closing-requires
-    put-value-requires
-    add-i
-    loop-less
-    loop-again
-    same-length
-    returns)
+    tie.close (tie.spec Inv-loop μ-loop loop-holds (λ c. omega arith) (λ c. omega arith) sub-closing sub-closing-2 (λ c κs. search needs)
+    put-value-requires add-i loop-less loop-again same-length returns)

@@ -5,7 +5,7 @@ use mathlib.Core.List.{List, _++_}
 use native.Mathlib.Omega.{arith}
 use lib.ListN.{length, length-append}
 use Rattle.rules_text.specs.Printing.{digits}
-use Rattle.print.proofs.DigitLaws.{split, tail, after, tails}
+use Rattle.print.proofs.DigitLaws.{split, tail, tails}
 use borrow.Author.Needs.{needs}
 use Rattle.print.proofs.put_long.Statement.{statement}
 use Rattle.print.proofs.put_long.Tie as tie
@@ -32,66 +32,27 @@ size s =
     let m = n - h * 100000000 - t * 10000 in
     omega (arith, ap length (whole s), length-append (digits 19 h ++ tail t) (tail m), length-append (digits 19 h) (tail t))
 
-mul-left : tie.Need-mul-left
-mul-left c = search needs
-
-sub-left : tie.Need-sub-left
-sub-left c = search needs
-
-put-digits-requires : tie.Need-put-digits-requires
-put-digits-requires c κs = let s = c .before .before in (omega (arith, s .pre .1), omega (arith, size s, s .pre .2))
-
-put-four-requires : tie.Need-put-four-requires
-put-four-requires c κs =
-    let d = c .before .before .before in
-    let s = c .before .before .before .before .before .before in
-    (omega arith, omega (arith, d .put-digits .ensures .1, d .put-digits .kept .0, size s, s .pre .2))
-
-add-put-tail : tie.Need-add-put-tail
-add-put-tail c =
-    let d = c .before .before .before .before .before .before .before in
-    let s = c .before .before .before .before .before .before .before .before .before .before in
-    omega (arith, d .put-digits .ensures .1, size s, s .pre .2, s .good)
-
-mul-put-tail : tie.Need-mul-put-tail
-mul-put-tail c = search needs
-
-sub-put-tail : tie.Need-sub-put-tail
-sub-put-tail c = search needs
+put-high-requires : tie.Need-put-high-requires
+put-high-requires c κs = let s = c .before .before in (omega (arith, s .pre .1), omega arith, omega (arith, size s, s .pre .2))
 
 put-tail-requires : tie.Need-put-tail-requires
 put-tail-requires c κs =
-    let d = c .before .before .before .before .before .before .before in
-    let s = c .before .before .before .before .before .before .before .before .before .before in
-    (omega arith, omega (arith, c .before .before .before .put-four .kept .0, d .put-digits .ensures .1, d .put-digits .kept .0, size s, s .pre .2))
-
-same-length : tie.Need-same-length
-same-length c = search needs
+    let h = c .before .before .before in
+    let s = h .before .before .before in
+    (omega arith, omega (arith, h .put-high .ensures .1, h .put-high .kept .0, size s, s .pre .2))
 
 returns : tie.Need-returns
 returns c =
     let p = c .before .before in
-    let f = c .before .before .before .before .before .before in
-    let d = c .before .before .before .before .before .before .before .before .before .before in
-    let s = c .before .before .before .before .before .before .before .before .before .before .before .before .before in
+    let d = p .before .before .before .before in
+    let s = d .before .before .before in
     let a = s .args in
     let h = a .n / 100000000 in
     let t = (a .n - h * 100000000) / 10000 in
-    tails (a .out .now) (f .put-four .last .0) (p .put-tail .last .0) (a .at) (d .put-digits .result + 4) (p .put-tail .result) (a .n) (a .n - h * 100000000 - t * 10000) (a .end) (digits 19 h ++ tail t) (whole s)
-    (f .put-four .ensures ∙ after (a .out .now) (d .put-digits .last .0) (a .at) (d .put-digits .result) (digits 19 h) (tail t) (digits 19 h ++ tail t) (d .put-digits .ensures .0) (d .put-digits .ensures .1) refl)
-    (omega (arith, d .put-digits .ensures .1, length-append (digits 19 h) (tail t))) (p .put-tail .ensures .0) (p .put-tail .ensures .1)
+    tails (a .out .now) (d .put-high .last .0) (p .put-tail .last .0) (a .at) (d .put-high .result) (p .put-tail .result) (a .n) (a .n - h * 100000000 - t * 10000) (a .end) (digits 19 h ++ tail t) (whole s)
+    (d .put-high .ensures .0) (omega (arith, d .put-high .ensures .1, length-append (digits 19 h) (tail t))) (p .put-tail .ensures .0) (p .put-tail .ensures .1)
 
 pub put-long-spec : {M : Type 1} → statement M
 put-long-spec =
-    tie.close
-    (tie.spec
-    mul-left
-    sub-left
-    put-digits-requires
-    put-four-requires
-    add-put-tail
-    mul-put-tail
-    sub-put-tail
-    put-tail-requires
-    same-length
-    returns)
+    tie.close (tie.spec (λ c. search needs) (λ c. search needs) put-high-requires (λ c. search needs) (λ c. search needs) put-tail-requires
+    (λ c. search needs) returns)

@@ -23,34 +23,10 @@ eight s t =
     let m = n - n / 10000 * 10000 in
     split n (n / 10000) m (omega (arith, s .pre .0)) (omega (arith, s .pre .1)) refl (omega arith) ∙ ap (λ (l : List ℕ). l ++ tail m) (four-digits (n / 10000) t (omega (arith, s .pre .1)))
 
-mul-left : tie.Need-mul-left
-mul-left c = search needs
-
-sub-left : tie.Need-sub-left
-sub-left c = search needs
-
-digit-requires : tie.Need-digit-requires
-digit-requires c κs = search needs
-
-slice-write-out : tie.Need-slice-write-out
-slice-write-out c = search needs
-
-add-put-two : tie.Need-add-put-two
-add-put-two c = search needs
-
-mul-put-two : tie.Need-mul-put-two
-mul-put-two c = search needs
-
-sub-put-two : tie.Need-sub-put-two
-sub-put-two c = search needs
-
 put-two-requires : tie.Need-put-two-requires
 put-two-requires c κs =
     let s = c .before .before .before .before in
     (omega arith, omega (arith, length-set (s .args .out .now) (s .args .at) (c .before .digit .result), ap length (seven s (c .before .before .if1 .taken))))
-
-add-put-tail : tie.Need-add-put-tail
-add-put-tail c = search needs
 
 put-tail-requires : tie.Need-put-tail-requires
 put-tail-requires c κs =
@@ -85,17 +61,11 @@ put-four-requires c κs =
     let s = c .before .before .before in
     (omega (arith, s .pre .1), omega (arith, ap length (eight s (c .before .if1 .left))))
 
-add-put-tail-2 : tie.Need-add-put-tail-2
-add-put-tail-2 c = search needs
-
 put-tail-requires-2 : tie.Need-put-tail-requires-2
 put-tail-requires-2 c κs =
     let p = c .before .before .before in
     let s = c .before .before .before .before .before .before .before in
     (omega arith, omega (arith, p .put-four .kept .0, ap length (eight s (p .before .before .if1 .left))))
-
-same-length-2 : tie.Need-same-length-2
-same-length-2 c = search needs
 
 returns-2 : tie.Need-returns-2
 returns-2 c =
@@ -109,22 +79,6 @@ returns-2 c =
 
 pub put-many-spec : {M : Type 1} → statement M
 put-many-spec =
-    tie.close
-    (tie.spec
-    mul-left
-    sub-left
-    digit-requires
-    slice-write-out
-    add-put-two
-    mul-put-two
-    sub-put-two
-    put-two-requires
-    add-put-tail
-    put-tail-requires
-    same-length
-    returns
-    put-four-requires
-    add-put-tail-2
-    put-tail-requires-2
-    same-length-2
-    returns-2)
+    tie.close (tie.spec (λ c. search needs) (λ c. search needs) (λ c κs. search needs) (λ c. search needs) (λ c. search needs) (λ c. search needs)
+    (λ c. search needs) put-two-requires (λ c. search needs) put-tail-requires same-length returns put-four-requires (λ c. search needs)
+    put-tail-requires-2 (λ c. search needs) returns-2)

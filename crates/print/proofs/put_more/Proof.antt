@@ -18,21 +18,6 @@ five d =
 six : (s : tie.Start) → let n = s .args .n in 10 ≤ n / 10000 → digits 19 n ≡ (48 + n / 10000 / 10) ∷ (48 + n / 10000 % 10) ∷ tail (n - n / 10000 * 10000)
 six s h = six-digits (s .args .n) (s .args .n - s .args .n / 10000 * 10000) (omega (arith, h)) (s .pre .1) (omega arith)
 
-mul-left : tie.Need-mul-left
-mul-left c = search needs
-
-sub-left : tie.Need-sub-left
-sub-left c = search needs
-
-digit-requires : tie.Need-digit-requires
-digit-requires c κs = search needs
-
-slice-write-out : tie.Need-slice-write-out
-slice-write-out c = search needs
-
-add-put-tail : tie.Need-add-put-tail
-add-put-tail c = search needs
-
 put-tail-requires : tie.Need-put-tail-requires
 put-tail-requires c κs =
     let d = c .before in
@@ -59,17 +44,11 @@ put-two-requires c κs =
     let s = c .before .before .before in
     (omega (arith, s .pre .1), omega (arith, ap length (six s (c .before .if1 .left))))
 
-add-put-tail-2 : tie.Need-add-put-tail-2
-add-put-tail-2 c = search needs
-
 put-tail-requires-2 : tie.Need-put-tail-requires-2
 put-tail-requires-2 c κs =
     let p = c .before .before .before in
     let s = p .before .before .before .before in
     (omega arith, omega (arith, p .put-two .kept .0, ap length (six s (p .before .before .if1 .left))))
-
-same-length-2 : tie.Need-same-length-2
-same-length-2 c = search needs
 
 returns-2 : tie.Need-returns-2
 returns-2 c =
@@ -82,18 +61,5 @@ returns-2 c =
 
 pub put-more-spec : {M : Type 1} → statement M
 put-more-spec =
-    tie.close
-    (tie.spec
-    mul-left
-    sub-left
-    digit-requires
-    slice-write-out
-    add-put-tail
-    put-tail-requires
-    same-length
-    returns
-    put-two-requires
-    add-put-tail-2
-    put-tail-requires-2
-    same-length-2
-    returns-2)
+    tie.close (tie.spec (λ c. search needs) (λ c. search needs) (λ c κs. search needs) (λ c. search needs) (λ c. search needs) put-tail-requires
+    same-length returns put-two-requires (λ c. search needs) put-tail-requires-2 (λ c. search needs) returns-2)

@@ -1,72 +1,41 @@
 -- `print::put_names` meets its contract. Assumes nothing.
-use Prim.Native.Nat.{_+_, _-_, _≤_}
-use native.Mathlib.Omega.{arith}
-use native.Mathlib.Nat.{add-zero}
-use mathlib.Core.Path.{_≡_, refl, sym, ap, _∙_}
-use lib.ListN.{length, drop, getD, length-set, drop-of-length-le}
-use lib.Seq.{sets}
-use Rattle.rules_text.proofs.PrintLaws.{names-step}
+use Prim.Native.Nat.{_+_}
+use borrow.Author.Needs.{needs}
+use borrow.Author.Tests.{leb-true, le-leb, not-true, not-false}
+use mathlib.Core.Bool.{true, false}
+use mathlib.Core.Path.{_≡_, sym, _∙_}
+use lib.ListN.{length}
+use Rattle.rules_number.proofs.OverLaws.{never}
+use Rattle.rules_text.specs.Printing.{holds}
+use Rattle.rules_text.proofs.PrintLaws.{prints, prints-none}
 use Rattle.print.proofs.put_names.Statement.{statement}
 use Rattle.print.proofs.put_names.Tie as tie
 
-abbrev Inv-loop : tie.InvT-loop
-Inv-loop out₀ at names i₀ out i = (i ≤ length names) × (length out ≡ length out₀) × (sets out (at + i) (drop i names) ≡ sets out₀ at names)
-
-abbrev μ-loop : tie.MeasureT-loop
-μ-loop out₀ at names i₀ out i = length names - i
-
-loop-holds : tie.Need-loop-holds Inv-loop μ-loop
-loop-holds c = (omega arith, refl, rw (add-zero (c .args .at)))
-
-shared-slice-read-out : tie.Need-shared-slice-read-out Inv-loop μ-loop
-shared-slice-read-out c = omega arith
-
-add-out : tie.Need-add-out Inv-loop μ-loop
-add-out c = omega arith
-
-slice-write-out : tie.Need-slice-write-out Inv-loop μ-loop
-slice-write-out c = omega arith
-
-add-i : tie.Need-add-i Inv-loop μ-loop
-add-i c = omega arith
-
-loop-less : tie.Need-loop-less Inv-loop μ-loop
-loop-less c = omega arith
-
-loop-again : tie.Need-loop-again Inv-loop μ-loop
-loop-again c =
-    let l = c .before .before in
-    let a = l .before .args in (
-      omega arith,
-      length-set (l .loop .out) (a .at + l .loop .i) (getD (a .names .now) (l .loop .i) 0) ∙ l .loop .inv .1,
-      names-step (a .out .now) (l .loop .out) (a .at) (a .names .now) (l .loop .i) (omega arith) (l .loop .inv .2),
+returns : tie.Need-returns
+returns c =
+    let r = c .before in
+    let a = r .before .before .before .args in
+    let h : holds (a .out .now) (a .at) (a .names .now) ≡ false = sym (r .has-room .ensures) ∙ not-true (r .has-room .result) (c .if1 .taken) in (
+      prints-none (a .out .now) (a .at) (a .names .now) h .0,
+      (rw h, λ l. never (sym h ∙ le-leb (a .at + length (a .names .now)) (length (a .out .now)) l)),
     )
 
-add-result : tie.Need-add-result Inv-loop μ-loop
-add-result c = omega arith
+put-bytes-requires : tie.Need-put-bytes-requires
+put-bytes-requires c κs =
+    let r = c .before .before in
+    let a = r .before .before .before .args in
+    leb-true (a .at + length (a .names .now)) (length (a .out .now)) (sym (r .has-room .ensures) ∙ not-false (r .has-room .result) (c .before .if1 .left))
 
-same-length : tie.Need-same-length Inv-loop μ-loop
-same-length c = c .before .loop .inv .1
-
-returns : tie.Need-returns Inv-loop μ-loop
-returns c =
-    let l = c .before in
-    let a = l .before .args in
-    (ap (sets (l .loop .out) (a .at + l .loop .i)) (sym (drop-of-length-le (a .names .now) (c .loop-test .left))) ∙ l .loop .inv .2, omega arith)
+returns-2 : tie.Need-returns-2
+returns-2 c =
+    let p = c .before .before in
+    let r = p .before .before .before in
+    let a = r .before .before .before .args in
+    let h : holds (a .out .now) (a .at) (a .names .now) ≡ true = sym (r .has-room .ensures) ∙ not-false (r .has-room .result) (p .before .before .if1 .left) in (
+      prints (a .out .now) (a .at) (a .names .now) (p .put-bytes .last .0) (p .put-bytes .result) h (p .put-bytes .ensures .0) (p .put-bytes .ensures .1) .0,
+      (rw h (p .put-bytes .ensures .1), λ l. p .put-bytes .ensures),
+    )
 
 pub put-names-spec : {M : Type 1} → statement M
 put-names-spec =
-    tie.close
-    (tie.spec
-    Inv-loop
-    μ-loop
-    loop-holds
-    shared-slice-read-out
-    add-out
-    slice-write-out
-    add-i
-    loop-less
-    loop-again
-    add-result
-    same-length
-    returns)
+    tie.close (tie.spec (λ c κs. search needs) returns put-bytes-requires (λ c. search needs) returns-2)

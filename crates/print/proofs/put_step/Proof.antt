@@ -7,9 +7,6 @@ use borrow.Author.Needs.{needs}
 use Rattle.print.proofs.put_step.Statement.{statement}
 use Rattle.print.proofs.put_step.Tie as tie
 
-put-head-requires : tie.Need-put-head-requires
-put-head-requires c κs = search needs
-
 put-value-requires : tie.Need-put-value-requires
 put-value-requires c κs =
     let h = c .before .before .before in
@@ -22,9 +19,6 @@ put-value-requires-2 c κs =
     let h = v .before .before .before .before in
     let s = h .before .before .before in
     omega (arith, v .put-value .ensures .1, v .put-value .kept .0, h .put-head .ensures .1, h .put-head .kept .0, digits-few 19 (s .args .b), decimal-few (rd (s .args .c)), decimal-few (rd (s .args .d)), s .pre .2)
-
-same-length : tie.Need-same-length
-same-length c = search needs
 
 returns : tie.Need-returns
 returns c =
@@ -39,5 +33,4 @@ returns c =
 
 pub put-step-spec : {M : Type 1} → statement M
 put-step-spec =
-    tie.close
-    (tie.spec put-head-requires put-value-requires put-value-requires-2 same-length returns)
+    tie.close (tie.spec (λ c κs. search needs) put-value-requires put-value-requires-2 (λ c. search needs) returns)

@@ -26,15 +26,6 @@ minus c = let s = c .before .before .before .before in decimal-minus (s .args .x
 plus : (c : tie.After-magnitude2) → decimal (c .before .before .before .before .args .x) ≡ digits 19 (natAbs (c .before .before .before .before .args .x))
 plus c = let s = c .before .before .before .before in decimal-plus (s .args .x) (rw (came (s .args .x) (s .fits .x .sfits)) at (c .before .before .if1 .left))
 
-slice-write-out : tie.Need-slice-write-out
-slice-write-out c = search needs
-
-add-put-closed : tie.Need-add-put-closed
-add-put-closed c = search needs
-
-magnitude-requires : tie.Need-magnitude-requires
-magnitude-requires c κs = search needs
-
 put-closed-requires : tie.Need-put-closed-requires
 put-closed-requires c κs =
     let s = c .before .before .before .before in
@@ -59,17 +50,11 @@ returns c =
       omega (arith, p .put-closed .ensures .1, k, ap length (minus m)),
     )
 
-magnitude-requires-2 : tie.Need-magnitude-requires-2
-magnitude-requires-2 c κs = search needs
-
 put-closed-requires-2 : tie.Need-put-closed-requires-2
 put-closed-requires-2 c κs =
     let s = c .before .before .before .before in
     let k = ap (λ (n : ℕ). length (digits 19 n)) (sized-2 c) in
     (omega (arith, sized-2 c, abs-small (s .args .x) (s .fits .x .sfits)), omega (arith, k, ap length (plus c), s .pre))
-
-same-length-2 : tie.Need-same-length-2
-same-length-2 c = search needs
 
 returns-2 : tie.Need-returns-2
 returns-2 c =
@@ -81,15 +66,5 @@ returns-2 c =
 
 pub put-value-spec : {M : Type 1} → statement M
 put-value-spec =
-    tie.close
-    (tie.spec
-    slice-write-out
-    add-put-closed
-    magnitude-requires
-    put-closed-requires
-    same-length
-    returns
-    magnitude-requires-2
-    put-closed-requires-2
-    same-length-2
-    returns-2)
+    tie.close (tie.spec (λ c. search needs) (λ c. search needs) (λ c κs. search needs) put-closed-requires same-length returns (λ c κs. search needs)
+    put-closed-requires-2 (λ c. search needs) returns-2)

@@ -13,28 +13,10 @@ stored : (out : List ℕ) (p w x y z v i j k : ℕ) → x ≡ w % 256 → y ≡ 
     → set (set (set (set out p x) i y) j z) k v ≡ sets out p (w % 256 ∷ w / 256 % 256 ∷ w / 65536 % 256 ∷ w / 16777216 % 256 ∷ [])
 stored out p w x y z v i j k ex ey ez ev ei ej ek = rw (ex, ey, ez, ev, ei, ej, ek)
 
-low-requires : tie.Need-low-requires
-low-requires c κs = search needs
-
-slice-write-out : tie.Need-slice-write-out
-slice-write-out c = search needs
-
-low-requires-2 : tie.Need-low-requires-2
-low-requires-2 c κs = search needs
-
-add-out : tie.Need-add-out
-add-out c = search needs
-
 slice-write-out-2 : tie.Need-slice-write-out-2
 slice-write-out-2 c =
     let a = c .before .before .before .args in
     omega (arith, length-set (a .out .now) (a .at) (c .before .low .result))
-
-low-requires-3 : tie.Need-low-requires-3
-low-requires-3 c κs = search needs
-
-add-out-2 : tie.Need-add-out-2
-add-out-2 c = search needs
 
 slice-write-out-3 : tie.Need-slice-write-out-3
 slice-write-out-3 c =
@@ -42,21 +24,12 @@ slice-write-out-3 c =
     let one = set (a .out .now) (a .at) (c .before .before .low .result) in
     omega (arith, length-set (a .out .now) (a .at) (c .before .before .low .result), length-set one (a .at + 1) (c .before .low2 .result))
 
-low-requires-4 : tie.Need-low-requires-4
-low-requires-4 c κs = search needs
-
-add-out-3 : tie.Need-add-out-3
-add-out-3 c = search needs
-
 slice-write-out-4 : tie.Need-slice-write-out-4
 slice-write-out-4 c =
     let a = c .before .before .before .before .before .args in
     let one = set (a .out .now) (a .at) (c .before .before .before .low .result) in
     let two = set one (a .at + 1) (c .before .before .low2 .result) in
     omega (arith, length-set (a .out .now) (a .at) (c .before .before .before .low .result), length-set one (a .at + 1) (c .before .before .low2 .result), length-set two (a .at + 2) (c .before .low3 .result))
-
-same-length : tie.Need-same-length
-same-length c = search needs
 
 returns : tie.Need-returns
 returns c =
@@ -66,18 +39,5 @@ returns c =
 
 pub put-word-spec : {M : Type 1} → statement M
 put-word-spec =
-    tie.close
-    (tie.spec
-    low-requires
-    slice-write-out
-    low-requires-2
-    add-out
-    slice-write-out-2
-    low-requires-3
-    add-out-2
-    slice-write-out-3
-    low-requires-4
-    add-out-3
-    slice-write-out-4
-    same-length
-    returns)
+    tie.close (tie.spec (λ c κs. search needs) (λ c. search needs) (λ c κs. search needs) (λ c. search needs) slice-write-out-2 (λ c κs. search needs)
+    (λ c. search needs) slice-write-out-3 (λ c κs. search needs) (λ c. search needs) slice-write-out-4 (λ c. search needs) returns)

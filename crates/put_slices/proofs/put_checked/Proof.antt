@@ -21,12 +21,6 @@ returns-2 c =
     let a = c .before .before .before .args in
     few-prices (a .edges .now) (a .prices .now) (outcomeNumber (a .checked .outcome)) (a .checked .curve) (c .before .if1 .left) (c .if2 .taken)
 
-enum-known-outcome : tie.Need-enum-known-outcome
-enum-known-outcome c = search needs
-
-refusal-number-requires : tie.Need-refusal-number-requires
-refusal-number-requires c κs = search needs
-
 few : (c : tie.After-refusal-number) → (0 < c .refusal-number .result) × (c .refusal-number .result ≤ 99)
 few c = let r = c .before .before .outcome .given .0 .0 in (omega (arith, c .refusal-number .ensures, refused-number r), omega (arith, c .refusal-number .ensures, two-digits r))
 
@@ -42,18 +36,6 @@ returns-3 c =
     let w = refused (a .edges .now) (a .prices .now) (outcomeNumber (a .checked .outcome)) (a .checked .curve) (e .before .if1 .left) (e .if2 .left) n (few c .0) told in
     (toZ-pos w64 {n = n} (omega (arith, few c .1)) ∙ w .0, w .1)
 
-enum-told : tie.Need-enum-told
-enum-told c = search needs
-
-put-default-requires : tie.Need-put-default-requires
-put-default-requires c κs = search needs
-
-same-length : tie.Need-same-length
-same-length c = search needs
-
-same-length-2 : tie.Need-same-length-2
-same-length-2 c = search needs
-
 returns-4 : tie.Need-returns-4
 returns-4 c =
     let put = c .before .before .before in
@@ -65,16 +47,5 @@ returns-4 c =
 
 pub put-checked-spec : {M : Type 1} → statement M
 put-checked-spec =
-    tie.close
-    (tie.spec
-    returns
-    returns-2
-    enum-known-outcome
-    refusal-number-requires
-    cast-result
-    returns-3
-    enum-told
-    put-default-requires
-    same-length
-    same-length-2
-    returns-4)
+    tie.close (tie.spec returns returns-2 (λ c. search needs) (λ c κs. search needs) cast-result returns-3 (λ c. search needs) (λ c κs. search needs)
+    (λ c. search needs) (λ c. search needs) returns-4)

@@ -13,62 +13,11 @@ use borrow.Author.Needs.{needs}
 use Rattle.run.proofs.is_shown.Statement.{statement}
 use Rattle.run.proofs.is_shown.Tie as tie
 
-add-if1 : tie.Need-add-if1
-add-if1 c = search needs
-
-mul-if1 : tie.Need-mul-if1
-mul-if1 c = search needs
-
-shared-slice-read-if1 : tie.Need-shared-slice-read-if1
-shared-slice-read-if1 c = search needs
-
 returns : tie.Need-returns
 returns c h = never h
 
-mul-is-same : tie.Need-mul-is-same
-mul-is-same c = search needs
-
-shared-slice-copy-out-is-same : tie.Need-shared-slice-copy-out-is-same
-shared-slice-copy-out-is-same c = search needs
-
-add-is-same : tie.Need-add-is-same
-add-is-same c = search needs
-
-mul-is-same-2 : tie.Need-mul-is-same-2
-mul-is-same-2 c = search needs
-
-shared-slice-copy-out-is-same-2 : tie.Need-shared-slice-copy-out-is-same-2
-shared-slice-copy-out-is-same-2 c = search needs
-
-is-same-requires : tie.Need-is-same-requires
-is-same-requires c κs = search needs
-
 returns-2 : tie.Need-returns-2
 returns-2 c h = never h
-
-add-is-same-2 : tie.Need-add-is-same-2
-add-is-same-2 c = search needs
-
-mul-is-same-3 : tie.Need-mul-is-same-3
-mul-is-same-3 c = search needs
-
-shared-slice-copy-out-is-same-3 : tie.Need-shared-slice-copy-out-is-same-3
-shared-slice-copy-out-is-same-3 c = search needs
-
-add-is-same-3 : tie.Need-add-is-same-3
-add-is-same-3 c = search needs
-
-add-is-same-4 : tie.Need-add-is-same-4
-add-is-same-4 c = search needs
-
-mul-is-same-4 : tie.Need-mul-is-same-4
-mul-is-same-4 c = search needs
-
-shared-slice-copy-out-is-same-4 : tie.Need-shared-slice-copy-out-is-same-4
-shared-slice-copy-out-is-same-4 c = search needs
-
-is-same-requires-2 : tie.Need-is-same-requires-2
-is-same-requires-2 c κs = search needs
 
 returns-3 : tie.Need-returns-3
 returns-3 c h =
@@ -86,25 +35,6 @@ returns-3 c h =
 
 pub is-shown-spec : {M : Type 1} → statement M
 is-shown-spec =
-    tie.close
-    (tie.spec
-    add-if1
-    mul-if1
-    shared-slice-read-if1
-    returns
-    mul-is-same
-    shared-slice-copy-out-is-same
-    add-is-same
-    mul-is-same-2
-    shared-slice-copy-out-is-same-2
-    is-same-requires
-    returns-2
-    add-is-same-2
-    mul-is-same-3
-    shared-slice-copy-out-is-same-3
-    add-is-same-3
-    add-is-same-4
-    mul-is-same-4
-    shared-slice-copy-out-is-same-4
-    is-same-requires-2
-    returns-3)
+    tie.close (tie.spec (λ c. search needs) (λ c. search needs) (λ c. search needs) returns (λ c. search needs) (λ c. search needs)
+    (λ c. search needs) (λ c. search needs) (λ c. search needs) (λ c κs. search needs) returns-2 (λ c. search needs) (λ c. search needs)
+    (λ c. search needs) (λ c. search needs) (λ c. search needs) (λ c. search needs) (λ c. search needs) (λ c κs. search needs) returns-3)

@@ -5,33 +5,12 @@ use Rattle.run.proofs.LinesPut.{again-to, again-full}
 use Rattle.run.proofs.put_again.Statement.{statement}
 use Rattle.run.proofs.put_again.Tie as tie
 
-add-first : tie.Need-add-first
-add-first c = search needs
-
-cast-first : tie.Need-cast-first
-cast-first c = search needs
-
-copy-lines-requires : tie.Need-copy-lines-requires
-copy-lines-requires c κs = search needs
-
-enum-known-next : tie.Need-enum-known-next
-enum-known-next c = search needs
-
-enum-told : tie.Need-enum-told
-enum-told c = search needs
-
-same-length : tie.Need-same-length
-same-length c = search needs
-
 returns : tie.Need-returns
 returns c =
     let p = c .before .before .before .before .before in
     let s = p .before .before .before .before in
     let a = s .args in
     again-to (a .out .now) (a .from) (a .at) (a .n) (a .widths .now) (a .base) (48 + a .i) (p .copy-lines .last .0) (p .copy-lines .result) (s .pre .0) (s .pre .1 .0) (p .copy-lines .ensures .0) (p .copy-lines .ensures .1) (c .before .next .given .0 .0) (c .before .next .given .1)
-
-same-length-2 : tie.Need-same-length-2
-same-length-2 c = search needs
 
 returns-2 : tie.Need-returns-2
 returns-2 c =
@@ -42,14 +21,5 @@ returns-2 c =
 
 pub put-again-spec : {M : Type 1} → statement M
 put-again-spec =
-    tie.close
-    (tie.spec
-    add-first
-    cast-first
-    copy-lines-requires
-    enum-known-next
-    enum-told
-    same-length
-    returns
-    same-length-2
-    returns-2)
+    tie.close (tie.spec (λ c. search needs) (λ c. search needs) (λ c κs. search needs) (λ c. search needs) (λ c. search needs) (λ c. search needs)
+    returns (λ c. search needs) returns-2)

@@ -12,31 +12,13 @@ use Rattle.run.proofs.KeptLaws.{kept-past}
 use Rattle.run.proofs.put_curves.Statement.{statement}
 use Rattle.run.proofs.put_curves.Tie as tie
 
-slice-aggregate-put-names : tie.Need-slice-aggregate-put-names
-slice-aggregate-put-names c = search needs
-
-put-names-requires : tie.Need-put-names-requires
-put-names-requires c κs = search needs
-
 put-table-requires : tie.Need-put-table-requires
 put-table-requires c κs =
     let n = c .before .before .before .before .before .before in
     let s = n .before .before .before .before .before .before in
-    let e = n .put-names .ensures in
+    let e = n .put-names .ensures .1 .1 (omega (arith, s .pre .0 .0)) in
     let long = ap length (e .0) ∙ length-sets (s .args .out .now) (s .args .at) curveNames in
     ((omega (arith, s .pre .0 .0, e .1, long), (s .pre .0 .1 .0, s .pre .0 .1 .1)), (s .pre .1 .0, kept-past (s .pre .1 .1) curveNames (n .put-names .last .0) (n .put-names .result) (e .0) (omega (arith, e .1))))
-
-same-length : tie.Need-same-length
-same-length c = search needs
-
-same-length-2 : tie.Need-same-length-2
-same-length-2 c = search needs
-
-same-length-3 : tie.Need-same-length-3
-same-length-3 c = search needs
-
-same-length-4 : tie.Need-same-length-4
-same-length-4 c = search needs
 
 returns : tie.Need-returns
 unfolding curveText
@@ -45,7 +27,7 @@ returns c =
     let n = t .before .before .before .before .before .before .before in
     let s = n .before .before .before .before .before .before in
     let a = s .args in
-    let e = n .put-names .ensures in
+    let e = n .put-names .ensures .1 .1 (omega (arith, s .pre .0 .0)) in
     let table = curveTable (a .i) (marketIn (a .state .now) .resources) (rowsIn (a .state .now)) (standingIn (a .state .now) .floors) in
     let text = curveText (a .i) (marketIn (a .state .now) .resources) (rowsIn (a .state .now)) (standingIn (a .state .now) .floors) in
     let named = putting-next (putting-start (a .out .now) (a .at) text) curveNames table (n .put-names .last .0) (n .put-names .result) refl (e .0) (e .1) in
@@ -55,13 +37,5 @@ returns c =
 
 pub put-curves-spec : {M : Type 1} → statement M
 put-curves-spec =
-    tie.close
-    (tie.spec
-    slice-aggregate-put-names
-    put-names-requires
-    put-table-requires
-    same-length
-    same-length-2
-    same-length-3
-    same-length-4
-    returns)
+    tie.close (tie.spec (λ c. search needs) (λ c κs. search needs) put-table-requires (λ c. search needs) (λ c. search needs) (λ c. search needs)
+    (λ c. search needs) returns)

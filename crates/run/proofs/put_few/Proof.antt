@@ -10,24 +10,6 @@ use Rattle.run.proofs.TookLaws.{opens}
 use Rattle.run.proofs.put_few.Statement.{statement}
 use Rattle.run.proofs.put_few.Tie as tie
 
-slice-aggregate-part-opened : tie.Need-slice-aggregate-part-opened
-slice-aggregate-part-opened c = search needs
-
-part-opened-requires : tie.Need-part-opened-requires
-part-opened-requires c κs = search needs
-
-put-many-requires : tie.Need-put-many-requires
-put-many-requires c κs = search needs
-
-same-length : tie.Need-same-length
-same-length c = search needs
-
-returns : tie.Need-returns
-returns c = search needs
-
-slice-aggregate-put-opened : tie.Need-slice-aggregate-put-opened
-slice-aggregate-put-opened c = search needs
-
 -- what the part did
 did : (a : tie.After-part-opened)
     → OpenedBy (a .before .before .before .before .args .text .now) (replicate 531 (pos 0)) (a .part-opened .last .1 .0) (a .part-opened .result .number) (a .part-opened .result .line) (a .part-opened .result .next) (a .part-opened .result .resources)
@@ -42,22 +24,7 @@ put-opened-requires c κs =
     let long : length (a .part-opened .last .1 .0) ≡ 531 = search needs in
     (s .pre .0, (s .pre .1, (omega (arith, long, c .before .before .if1 .left), subst (λ (n : ℕ). OpenedBy (s .args .text .now) (replicate n (pos 0)) (a .part-opened .last .1 .0) (a .part-opened .result .number) (a .part-opened .result .line) (a .part-opened .result .next) (a .part-opened .result .resources)) (sym long) (did a))))
 
-same-length-2 : tie.Need-same-length-2
-same-length-2 c = search needs
-
-returns-2 : tie.Need-returns-2
-returns-2 c = search needs
-
 pub put-few-spec : {M : Type 1} → statement M
 put-few-spec =
-    tie.close
-    (tie.spec
-    slice-aggregate-part-opened
-    part-opened-requires
-    put-many-requires
-    same-length
-    returns
-    slice-aggregate-put-opened
-    put-opened-requires
-    same-length-2
-    returns-2)
+    tie.close (tie.spec (λ c. search needs) (λ c κs. search needs) (λ c κs. search needs) (λ c. search needs) (λ c. search needs) (λ c. search needs)
+    put-opened-requires (λ c. search needs) (λ c. search needs))

@@ -12,24 +12,6 @@ use Rattle.run.proofs.LinesPut.{fresh-to, fresh-full}
 use Rattle.run.proofs.put_fresh.Statement.{statement}
 use Rattle.run.proofs.put_fresh.Tie as tie
 
-mul-print-lines : tie.Need-mul-print-lines
-mul-print-lines c = search needs
-
-print-lines-requires : tie.Need-print-lines-requires
-print-lines-requires c κs = search needs
-
-enum-known-next : tie.Need-enum-known-next
-enum-known-next c = search needs
-
-enum-told : tie.Need-enum-told
-enum-told c = search needs
-
-same-length : tie.Need-same-length
-same-length c = search needs
-
-same-length-2 : tie.Need-same-length-2
-same-length-2 c = search needs
-
 returns : tie.Need-returns
 returns c =
     let p = c .before .before .before .before .before .before .before in
@@ -38,12 +20,6 @@ returns c =
     fresh-to (a .out .now) (a .at) (groupText (printable (a .i)) (a .r) (curveRows (rowsIn (a .state .now)) (standingIn (a .state .now) .floors) (a .r))) (a .widths .now) (mostMitigatedSteps * a .r)
     (map (widthOf (printable (a .i)) (a .r)) (curveRows (rowsIn (a .state .now)) (standingIn (a .state .now) .floors) (a .r))) (p .print-lines .last .0) (p .print-lines .last .1 .1 .1 .1 .1 .0) (p .print-lines .result) (s .pre .0) (omega (arith, s .pre .1 .0, s .pre .1 .1))
     (p .print-lines .ensures .0) (p .print-lines .ensures .1 .0) (p .print-lines .ensures .1 .1 .0) (p .print-lines .ensures .1 .1 .1) (c .before .next .given .0 .0) (c .before .next .given .1)
-
-same-length-3 : tie.Need-same-length-3
-same-length-3 c = search needs
-
-same-length-4 : tie.Need-same-length-4
-same-length-4 c = search needs
 
 returns-2 : tie.Need-returns-2
 returns-2 c =
@@ -56,15 +32,5 @@ returns-2 c =
 
 pub put-fresh-spec : {M : Type 1} → statement M
 put-fresh-spec =
-    tie.close
-    (tie.spec
-    mul-print-lines
-    print-lines-requires
-    enum-known-next
-    enum-told
-    same-length
-    same-length-2
-    returns
-    same-length-3
-    same-length-4
-    returns-2)
+    tie.close (tie.spec (λ c. search needs) (λ c κs. search needs) (λ c. search needs) (λ c. search needs) (λ c. search needs) (λ c. search needs)
+    returns (λ c. search needs) (λ c. search needs) returns-2)

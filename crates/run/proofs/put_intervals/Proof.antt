@@ -66,9 +66,6 @@ loop-holds c =
     let s = c .before .before in
     (going-start (s .args .text .now) (s .args .out .now) (hourIn (s .args .state .now) .hour) (s .args .start) (s .args .lines-before) (s .pre .0) (s .pre .1 .1 .1), (refl, (s .pre .1 .0 .1, (record { floors = refl; places = refl; wide = refl }, kept-start (rowsIn (s .args .state .now)) (s .args .out .now) 0 _ _))))
 
-part-taken-requires : tie.Need-part-taken-requires Inv-loop μ-loop
-part-taken-requires c κs = search needs
-
 put-refusal-requires : tie.Need-put-refusal-requires Inv-loop μ-loop
 put-refusal-requires c κs =
     let a = c .before .before .before in
@@ -76,9 +73,6 @@ put-refusal-requires c κs =
     let w = l .loop .inv .0 in
     let few = stopped-few w (more a) (took a) (positive (a .part-taken .result .number) (c .before .if1 .taken)) in
     (omega (arith, w .few, w .high, w .put .long, begin l .pre .1 .1 .0), few)
-
-same-length : tie.Need-same-length Inv-loop μ-loop
-same-length c = search needs
 
 same-length-2 : tie.Need-same-length-2 Inv-loop μ-loop
 same-length-2 c =
@@ -212,24 +206,6 @@ returns-2 c =
 
 pub put-intervals-spec : {M : Type 1} → statement M
 put-intervals-spec =
-    tie.close
-    (tie.spec
-    Inv-loop
-    μ-loop
-    loop-holds
-    part-taken-requires
-    put-refusal-requires
-    same-length
-    same-length-2
-    returns
-    put-verdicts-requires
-    slice-aggregate-put-curves
-    slice-aggregate-put-curves-2
-    slice-aggregate-put-curves-3
-    put-curves-requires
-    add-i
-    loop-less
-    loop-again
-    same-length-3
-    same-length-4
-    returns-2)
+    tie.close (tie.spec Inv-loop μ-loop loop-holds (λ c κs. search needs) put-refusal-requires (λ c. search needs) same-length-2 returns
+    put-verdicts-requires slice-aggregate-put-curves slice-aggregate-put-curves-2 slice-aggregate-put-curves-3 put-curves-requires add-i loop-less
+    loop-again same-length-3 same-length-4 returns-2)

@@ -12,15 +12,6 @@ use Rattle.run.proofs.PartsLaws.{resources-few}
 use Rattle.run.proofs.put_many.Statement.{statement}
 use Rattle.run.proofs.put_many.Tie as tie
 
-slice-aggregate-part-opened : tie.Need-slice-aggregate-part-opened
-slice-aggregate-part-opened c = search needs
-
-part-opened-requires : tie.Need-part-opened-requires
-part-opened-requires c κs = search needs
-
-slice-aggregate-put-opened : tie.Need-slice-aggregate-put-opened
-slice-aggregate-put-opened c = search needs
-
 -- what the part did
 did : (a : tie.After-part-opened)
     → OpenedBy (a .before .before .before .before .args .text .now) (replicate stateRoom (pos 0)) (a .part-opened .last .1 .0) (a .part-opened .result .number) (a .part-opened .result .line) (a .part-opened .result .next) (a .part-opened .result .resources)
@@ -35,19 +26,6 @@ put-opened-requires c κs =
     let long : length (a .part-opened .last .1 .0) ≡ stateRoom = search needs in
     (s .pre .0, (s .pre .1, (omega (arith, long, resources-few (did a)), subst (λ (n : ℕ). OpenedBy (s .args .text .now) (replicate n (pos 0)) (a .part-opened .last .1 .0) (a .part-opened .result .number) (a .part-opened .result .line) (a .part-opened .result .next) (a .part-opened .result .resources)) (sym long) (did a))))
 
-same-length : tie.Need-same-length
-same-length c = search needs
-
-returns : tie.Need-returns
-returns c = search needs
-
 pub put-many-spec : {M : Type 1} → statement M
 put-many-spec =
-    tie.close
-    (tie.spec
-    slice-aggregate-part-opened
-    part-opened-requires
-    slice-aggregate-put-opened
-    put-opened-requires
-    same-length
-    returns)
+    tie.close (tie.spec (λ c. search needs) (λ c κs. search needs) (λ c. search needs) put-opened-requires (λ c. search needs) (λ c. search needs))

@@ -22,9 +22,6 @@ put-refusal-requires c κs =
     let s = c .before .before .before .before in
     (omega (arith, s .pre .0), unopened-few (s .pre .1 .1 .1) (positive (s .args .opened .number) (c .before .if1 .taken)) (s .pre .1 .0))
 
-same-length : tie.Need-same-length
-same-length c = search needs
-
 returns : tie.Need-returns
 returns c =
     let q = c .before .before in
@@ -39,12 +36,6 @@ put-intervals-requires c κs =
     let b = begun (length (s .args .state .now)) (s .pre .1 .1 .0) (s .pre .1 .1 .1) (c .before .before .before .if1 .left) in
     (b .fresh, ((omega (arith, s .pre .1 .1 .0), refl), (s .pre .0, omega (arith, b .left, s .pre .1 .0))))
 
-same-length-2 : tie.Need-same-length-2
-same-length-2 c = search needs
-
-same-length-3 : tie.Need-same-length-3
-same-length-3 c = search needs
-
 returns-2 : tie.Need-returns-2
 returns-2 c =
     let q = c .before .before .before in
@@ -55,12 +46,4 @@ returns-2 c =
 
 pub put-opened-spec : {M : Type 1} → statement M
 put-opened-spec =
-    tie.close
-    (tie.spec
-    put-refusal-requires
-    same-length
-    returns
-    put-intervals-requires
-    same-length-2
-    same-length-3
-    returns-2)
+    tie.close (tie.spec put-refusal-requires (λ c. search needs) returns put-intervals-requires (λ c. search needs) (λ c. search needs) returns-2)

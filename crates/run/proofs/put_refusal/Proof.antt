@@ -16,18 +16,6 @@ use Rattle.run.proofs.put_refusal.Tie as tie
 shown : (n l : ℕ) → n ≤ 99 → l ≤ 200000 → refusalText (printable n) (printable l) ≡ refusalText n l
 shown n l h k = ap (λ (x : ℕ). refusalText x (printable l)) (let e : printable n ≡ n = omega arith in e) ∙ ap (refusalText n) (let e : printable l ≡ l = omega arith in e)
 
-print-refusal-requires : tie.Need-print-refusal-requires
-print-refusal-requires c κs = search needs
-
-enum-known-next : tie.Need-enum-known-next
-enum-known-next c = search needs
-
-enum-told : tie.Need-enum-told
-enum-told c = search needs
-
-same-length : tie.Need-same-length
-same-length c = search needs
-
 returns : tie.Need-returns
 returns c =
     let p = c .before .before .before .before .before in
@@ -37,9 +25,6 @@ returns c =
     let n = g .1 ∙ ap (λ (t : List ℕ). a .at + length t) e in
     (g .0 ∙ ap (sets (a .out .now) (a .at)) e, ((n, omega (arith, n, refusal-few (a .number) (a .line))), refl))
 
-same-length-2 : tie.Need-same-length-2
-same-length-2 c = search needs
-
 returns-2 : tie.Need-returns-2
 returns-2 c =
     let p = c .before .before .before .before in
@@ -48,12 +33,4 @@ returns-2 c =
 
 pub put-refusal-spec : {M : Type 1} → statement M
 put-refusal-spec =
-    tie.close
-    (tie.spec
-    print-refusal-requires
-    enum-known-next
-    enum-told
-    same-length
-    returns
-    same-length-2
-    returns-2)
+    tie.close (tie.spec (λ c κs. search needs) (λ c. search needs) (λ c. search needs) (λ c. search needs) returns (λ c. search needs) returns-2)

@@ -48,12 +48,6 @@ few c = omega (arith, c .loop-test .taken, c .before .before .at-most .ensures)
 room : (c : tie.In-loop Inv-loop μ-loop) → c .before .loop .p + curveBytes ≤ length (c .before .loop .out)
 room c = omega (arith, few c, c .before .loop .inv .0 .long, c .before .loop .inv .1 .1 .0, start c .pre .0 .0)
 
-whole-at-requires : tie.Need-whole-at-requires Inv-loop μ-loop
-whole-at-requires c κs = search needs
-
-at-most-requires : tie.Need-at-most-requires Inv-loop μ-loop
-at-most-requires c κs = search needs
-
 loop-holds : tie.Need-loop-holds Inv-loop μ-loop
 unfolding curveTable marketIn
 loop-holds c =
@@ -132,20 +126,5 @@ returns c =
 
 pub put-table-spec : {M : Type 1} → statement M
 put-table-spec =
-    tie.close
-    (tie.spec
-    Inv-loop
-    μ-loop
-    whole-at-requires
-    at-most-requires
-    loop-holds
-    put-lines-requires
-    keep-lines-requires
-    add-r
-    loop-less
-    loop-again
-    same-length
-    same-length-2
-    same-length-3
-    same-length-4
-    returns)
+    tie.close (tie.spec Inv-loop μ-loop (λ c κs. search needs) (λ c κs. search needs) loop-holds put-lines-requires keep-lines-requires add-r
+    loop-less loop-again same-length same-length-2 same-length-3 same-length-4 returns)

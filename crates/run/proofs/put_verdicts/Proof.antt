@@ -7,27 +7,12 @@ use borrow.Author.Needs.{needs}
 use Rattle.run.proofs.put_verdicts.Statement.{statement}
 use Rattle.run.proofs.put_verdicts.Tie as tie
 
-print-verdicts-requires : tie.Need-print-verdicts-requires
-print-verdicts-requires c κs = search needs
-
-enum-known-next : tie.Need-enum-known-next
-enum-known-next c = search needs
-
-enum-told : tie.Need-enum-told
-enum-told c = search needs
-
-same-length : tie.Need-same-length
-same-length c = search needs
-
 returns : tie.Need-returns
 returns c =
     let p = c .before .before .before .before .before in
     let a = p .before .before .before .args in
     let g = put-to verdictRoom (a .out .now) (a .at) (verdictText (a .i) (a .constraints) (verdictsIn (a .verdicts .now))) (p .print-verdicts .last .0) (p .print-verdicts .result) (p .before .before .before .pre) (p .print-verdicts .ensures .0) (p .print-verdicts .ensures .1 .0) (c .before .next .given .0 .0) (c .before .next .given .1) in
     (g .0, (g .1, omega (arith, g .1, p .print-verdicts .ensures .1 .1 (p .before .before .before .pre))))
-
-same-length-2 : tie.Need-same-length-2
-same-length-2 c = search needs
 
 returns-2 : tie.Need-returns-2
 returns-2 c =
@@ -37,12 +22,4 @@ returns-2 c =
 
 pub put-verdicts-spec : {M : Type 1} → statement M
 put-verdicts-spec =
-    tie.close
-    (tie.spec
-    print-verdicts-requires
-    enum-known-next
-    enum-told
-    same-length
-    returns
-    same-length-2
-    returns-2)
+    tie.close (tie.spec (λ c κs. search needs) (λ c. search needs) (λ c. search needs) (λ c. search needs) returns (λ c. search needs) returns-2)

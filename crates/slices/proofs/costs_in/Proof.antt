@@ -11,30 +11,6 @@ use Rattle.rules_library.specs.Slices.{costsIn}
 use Rattle.slices.proofs.costs_in.Statement.{statement}
 use Rattle.slices.proofs.costs_in.Tie as tie
 
-points-in-requires : tie.Need-points-in-requires
-points-in-requires c κs = search needs
-
-cell-at-requires : tie.Need-cell-at-requires
-cell-at-requires c κs = search needs
-
-cell-at-requires-2 : tie.Need-cell-at-requires-2
-cell-at-requires-2 c κs = search needs
-
-cell-at-requires-3 : tie.Need-cell-at-requires-3
-cell-at-requires-3 c κs = search needs
-
-cell-at-requires-4 : tie.Need-cell-at-requires-4
-cell-at-requires-4 c κs = search needs
-
-cell-at-requires-5 : tie.Need-cell-at-requires-5
-cell-at-requires-5 c κs = search needs
-
-cell-at-requires-6 : tie.Need-cell-at-requires-6
-cell-at-requires-6 c κs = search needs
-
-cell-at-requires-7 : tie.Need-cell-at-requires-7
-cell-at-requires-7 c κs = search needs
-
 by-cells : {n : ℕ} {l l' : List Point} {g g' r r' a a' o o' m m' s s' f f' : ℤ} → l ≡ l' → g ≡ g' → r ≡ r' → a ≡ a' → o ≡ o' → m ≡ m' → s ≡ s' → f ≡ f'
     → _≡_ {A = Costs} (record { count = n; points = l; gas = g; rate = r; allowance = a; om = o; msc = m; soc = s; fee = f })
     (record { count = n; points = l'; gas = g'; rate = r'; allowance = a'; om = o'; msc = m'; soc = s'; fee = f' })
@@ -56,14 +32,5 @@ returns c =
 
 pub costs-in-spec : {M : Type 1} → statement M
 costs-in-spec =
-    tie.close
-    (tie.spec
-    points-in-requires
-    cell-at-requires
-    cell-at-requires-2
-    cell-at-requires-3
-    cell-at-requires-4
-    cell-at-requires-5
-    cell-at-requires-6
-    cell-at-requires-7
-    returns)
+    tie.close (tie.spec (λ c κs. search needs) (λ c κs. search needs) (λ c κs. search needs) (λ c κs. search needs) (λ c κs. search needs)
+    (λ c κs. search needs) (λ c κs. search needs) (λ c κs. search needs) returns)

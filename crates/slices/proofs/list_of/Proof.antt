@@ -8,23 +8,15 @@ use Rattle.rules_library.specs.Gas.{listBy}
 use Rattle.slices.proofs.list_of.Statement.{statement}
 use Rattle.slices.proofs.list_of.Tie as tie
 
-slice-aggregate-result : tie.Need-slice-aggregate-result
-slice-aggregate-result c = search needs
-
 -- any other market has no list
 no-list : (n : ℕ) (ahead real : List ℕ) → (n ≡ 0 → ⊥) → (n ≡ 1 → ⊥) → [] ≡ listBy n ahead real
 no-list zero ahead real h k = absurd (h refl)
 no-list (suc zero) ahead real h k = absurd (k refl)
 no-list (suc (suc n)) ahead real h k = refl
 
-returns : tie.Need-returns
-returns c = search needs
-
-returns-2 : tie.Need-returns-2
-returns-2 c = search needs
-
 returns-3 : tie.Need-returns-3
 returns-3 c = let a = c .before .before .args in no-list (a .market) (a .day-ahead .now) (a .real-time .now) (λ h. omega arith) (λ h. omega arith)
 
 pub list-of-spec : {M : Type 1} → statement M
-list-of-spec = tie.close (tie.spec slice-aggregate-result returns returns-2 returns-3)
+list-of-spec =
+    tie.close (tie.spec (λ c. search needs) (λ c. search needs) (λ c. search needs) returns-3)

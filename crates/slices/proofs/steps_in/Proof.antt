@@ -26,33 +26,6 @@ loop-holds : tie.Need-loop-holds Inv-loop μ-loop
 unfolding padded listed
 loop-holds c = (omega arith, refl)
 
-mul-cell-at : tie.Need-mul-cell-at Inv-loop μ-loop
-mul-cell-at c = search needs
-
-cell-at-requires : tie.Need-cell-at-requires Inv-loop μ-loop
-cell-at-requires c κs = search needs
-
-mul-cell-at-2 : tie.Need-mul-cell-at-2 Inv-loop μ-loop
-mul-cell-at-2 c = search needs
-
-add-cell-at : tie.Need-add-cell-at Inv-loop μ-loop
-add-cell-at c = search needs
-
-cell-at-requires-2 : tie.Need-cell-at-requires-2 Inv-loop μ-loop
-cell-at-requires-2 c κs = search needs
-
-mul-steps : tie.Need-mul-steps Inv-loop μ-loop
-mul-steps c = search needs
-
-array-set-from-steps : tie.Need-array-set-from-steps Inv-loop μ-loop
-array-set-from-steps c = search needs
-
-add-i : tie.Need-add-i Inv-loop μ-loop
-add-i c = search needs
-
-loop-less : tie.Need-loop-less Inv-loop μ-loop
-loop-less c = search needs
-
 by-cells : {a a' b b' : ℤ} → a ≡ a' → b ≡ b' → _≡_ {A = RawStep} (record { end = a; price = b }) (record { end = a'; price = b' })
 by-cells e f = cc
 
@@ -72,19 +45,5 @@ returns c =
 
 pub steps-in-spec : {M : Type 1} → statement M
 steps-in-spec =
-    tie.close
-    (tie.spec
-    Inv-loop
-    μ-loop
-    loop-holds
-    mul-cell-at
-    cell-at-requires
-    mul-cell-at-2
-    add-cell-at
-    cell-at-requires-2
-    mul-steps
-    array-set-from-steps
-    add-i
-    loop-less
-    loop-again
-    returns)
+    tie.close (tie.spec Inv-loop μ-loop loop-holds (λ c. search needs) (λ c κs. search needs) (λ c. search needs) (λ c. search needs)
+    (λ c κs. search needs) (λ c. search needs) (λ c. search needs) (λ c. search needs) (λ c. search needs) loop-again returns)

@@ -3,11 +3,8 @@ use borrow.Author.Needs.{needs}
 use Rattle.standing.proofs.cut_floor.Statement.{statement}
 use Rattle.standing.proofs.cut_floor.Tie as tie
 
-lowered-requires : tie.Need-lowered-requires
-lowered-requires c κs = search needs
-
 returns : tie.Need-returns
 returns c = rw (c .lowered .ensures)
 
 pub cut-floor-spec : {M : Type 1} → statement M
-cut-floor-spec = tie.close (tie.spec lowered-requires returns)
+cut-floor-spec = tie.close (tie.spec (λ c κs. search needs) returns)

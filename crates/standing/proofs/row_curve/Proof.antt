@@ -3,11 +3,8 @@ use borrow.Author.Needs.{needs}
 use Rattle.standing.proofs.row_curve.Statement.{statement}
 use Rattle.standing.proofs.row_curve.Tie as tie
 
-mitigated-curve-requires : tie.Need-mitigated-curve-requires
-mitigated-curve-requires c κs = search needs
-
 returns : tie.Need-returns
 returns c = c .mitigated-curve .ensures
 
 pub row-curve-spec : {M : Type 1} → statement M
-row-curve-spec = tie.close (tie.spec mitigated-curve-requires returns)
+row-curve-spec = tie.close (tie.spec (λ c κs. search needs) returns)

@@ -15,24 +15,6 @@ by-cells e f = cc
 returns : tie.Need-returns
 returns c = let a = c .before .args in sym (floors-past (a .state .now) (a .from) (a .r) (c .if1 .taken))
 
-add-cell-at : tie.Need-add-cell-at
-add-cell-at c = search needs
-
-cell-at-requires : tie.Need-cell-at-requires
-cell-at-requires c κs = search needs
-
-add-cell-at-2 : tie.Need-add-cell-at-2
-add-cell-at-2 c = search needs
-
-add-cell-at-3 : tie.Need-add-cell-at-3
-add-cell-at-3 c = search needs
-
-cell-at-requires-2 : tie.Need-cell-at-requires-2
-cell-at-requires-2 c κs = search needs
-
-floor-of-requires : tie.Need-floor-of-requires
-floor-of-requires c κs = search needs
-
 returns-2 : tie.Need-returns-2
 returns-2 c =
     let p = c .before in
@@ -44,13 +26,5 @@ returns-2 c =
 
 pub floor-from-spec : {M : Type 1} → statement M
 floor-from-spec =
-    tie.close
-    (tie.spec
-    returns
-    add-cell-at
-    cell-at-requires
-    add-cell-at-2
-    add-cell-at-3
-    cell-at-requires-2
-    floor-of-requires
-    returns-2)
+    tie.close (tie.spec returns (λ c. search needs) (λ c κs. search needs) (λ c. search needs) (λ c. search needs) (λ c κs. search needs)
+    (λ c κs. search needs) returns-2)

@@ -4,12 +4,9 @@ use Rattle.rules_state.specs.States.{standingIn}
 use Rattle.state_cells.proofs.floor_in.Statement.{statement}
 use Rattle.state_cells.proofs.floor_in.Tie as tie
 
-floor-from-requires : tie.Need-floor-from-requires
-floor-from-requires c κs = search needs
-
 returns : tie.Need-returns
 unfolding standingIn
 returns c = c .floor-from .ensures
 
 pub floor-in-spec : {M : Type 1} → statement M
-floor-in-spec = tie.close (tie.spec floor-from-requires returns)
+floor-in-spec = tie.close (tie.spec (λ c κs. search needs) returns)

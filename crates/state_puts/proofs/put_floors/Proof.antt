@@ -31,18 +31,6 @@ joined floors s marked out at n e f =
     let far : mostResources ≡ length marks = sym (simp length-map n) in
     f ∙ ap (λ (l : List ℤ). sets l (at + mostResources) prices) e ∙ ap (λ (i : ℕ). sets (sets s at marks) (at + i) prices) far ∙ sym (sets-append s at marks prices)
 
-put-marks-requires : tie.Need-put-marks-requires
-put-marks-requires c κs = search needs
-
-add-put-prices : tie.Need-add-put-prices
-add-put-prices c = search needs
-
-put-prices-requires : tie.Need-put-prices-requires
-put-prices-requires c κs = search needs
-
-same-length : tie.Need-same-length
-same-length c = search needs
-
 returns : tie.Need-returns
 returns c =
     let p = c .before in
@@ -53,4 +41,4 @@ returns c =
 
 pub put-floors-spec : {M : Type 1} → statement M
 put-floors-spec =
-    tie.close (tie.spec put-marks-requires add-put-prices put-prices-requires same-length returns)
+    tie.close (tie.spec (λ c κs. search needs) (λ c. search needs) (λ c κs. search needs) (λ c. search needs) returns)

@@ -11,18 +11,6 @@ use Rattle.rules_state.specs.States.{floorsCells}
 use Rattle.state_puts.proofs.put_quarter.Statement.{statement}
 use Rattle.state_puts.proofs.put_quarter.Tie as tie
 
-put-whole-requires : tie.Need-put-whole-requires
-put-whole-requires c κs = search needs
-
-add-put-floors : tie.Need-add-put-floors
-add-put-floors c = search needs
-
-put-floors-requires : tie.Need-put-floors-requires
-put-floors-requires c κs = search needs
-
-same-length : tie.Need-same-length
-same-length c = search needs
-
 returns : tie.Need-returns
 returns c =
     let p = c .before in
@@ -32,4 +20,4 @@ returns c =
 
 pub put-quarter-spec : {M : Type 1} → statement M
 put-quarter-spec =
-    tie.close (tie.spec put-whole-requires add-put-floors put-floors-requires same-length returns)
+    tie.close (tie.spec (λ c κs. search needs) (λ c. search needs) (λ c κs. search needs) (λ c. search needs) returns)

@@ -15,21 +15,6 @@ abbrev μ-loop : tie.MeasureT-loop
 loop-holds : tie.Need-loop-holds Inv-loop μ-loop
 loop-holds c = (omega arith, filled-none)
 
-mul-found : tie.Need-mul-found Inv-loop μ-loop
-mul-found c = omega arith
-
-mul-found-2 : tie.Need-mul-found-2 Inv-loop μ-loop
-mul-found-2 c = omega arith
-
-array-set-of-found : tie.Need-array-set-of-found Inv-loop μ-loop
-array-set-of-found c = omega arith
-
-add-c : tie.Need-add-c Inv-loop μ-loop
-add-c c = omega arith
-
-loop-less : tie.Need-loop-less Inv-loop μ-loop
-loop-less c = omega arith
-
 loop-again : tie.Need-loop-again Inv-loop μ-loop
 loop-again c =
     let l = c .before in
@@ -43,15 +28,5 @@ returns c =
 
 pub none-found-spec : {M : Type 1} → statement M
 none-found-spec =
-    tie.close
-    (tie.spec
-    Inv-loop
-    μ-loop
-    loop-holds
-    mul-found
-    mul-found-2
-    array-set-of-found
-    add-c
-    loop-less
-    loop-again
-    returns)
+    tie.close (tie.spec Inv-loop μ-loop loop-holds (λ c. omega arith) (λ c. omega arith) (λ c. omega arith) (λ c. omega arith) (λ c. omega arith)
+    loop-again returns)

@@ -10,14 +10,13 @@ use mir.Syntax.{w64}
 use mir.Val.{toZ, ofZ}
 use Rattle.rules_number.proofs.Kit.{came}
 use Rattle.rules_curve.specs.Refusals.{outcomeNumber}
-use Rattle.rules_curve.proofs.RefusalLaws.{refused-number}
 use Rattle.rules_interval.specs.Intervals.{intervalOf, intervalRefusal}
 use Rattle.rules_interval.specs.declared.Interval.{Interval}
 use Rattle.rules_path.specs.declared.Market.{Market}
 use Rattle.rules_hour.specs.Hours.{callRefusal}
 use Rattle.rules_state.specs.States.{standingIn, marketIn}
 use Rattle.rules_state.specs.Verdicts.{judgedCells}
-use Rattle.rules_state.specs.Takes.{ifAccepted, cutsTo, standingWritten}
+use Rattle.rules_state.specs.Takes.{ifAccepted, standingWritten}
 use Rattle.rules_state.proofs.TakeLaws.{not-written}
 use Rattle.taking.proofs.TurnLaws.{full, open-for, accepted-in, interval-written, same-number}
 use Rattle.taking.proofs.take_into.Statement.{statement}
@@ -47,29 +46,26 @@ verdicts s = sets (s .args .verdicts .now) 0 (judgedCells (market s) (values s))
 abbrev start : tie.After-cut-into → tie.Start
 start j = j .before .before .before .before .before .before
 
+accepted-is : (c : tie.After-whole-at) → c .whole-at .result ≡ standingIn (c .before .before .args .state .now) .accepted
+accepted-is c = c .whole-at .ensures ∙ sym (accepted-in (c .before .before .args .state .now) (values (c .before .before)))
+
 -- the cells after the cuts
 cut-number : (j : tie.After-cut-into) → outcomeNumber (j .cut-into .result) ≡ own (start j)
 cut-number j = rw (held (start j)) at (j .cut-into .ensures .0)
 
-cut-cells : (j : tie.After-cut-into) → j .cut-into .last .0 ≡ ifAccepted (own (start j)) (cutsTo (market (start j)) (values (start j)) 1 (market (start j) .resources) (start j .args .state .now)) (start j .args .state .now)
-cut-cells j = rw (held (start j)) at (j .cut-into .ensures .1 .0)
+cut-cells : (j : tie.After-cut-into) → j .cut-into .last .0 ≡ ifAccepted (own (start j)) (standingWritten (start j .args .state .now) (values (start j))) (start j .args .state .now)
+cut-cells j =
+    let s = start j in
+    rw (held s) at (j .cut-into .ensures .1 .0)
+    ∙ ap (λ (x : List ℤ). ifAccepted (own s) x (s .args .state .now)) (interval-written (s .args .state .now) (values s) _ (accepted-is (j .before .before .before .before)))
 
-cut-verdicts : (j : tie.After-cut-into) → j .cut-into .last .1 .1 .1 .1 .1 .1 .1 .1 .1 .1 .1 .0 ≡ ifAccepted (own (start j)) (verdicts (start j)) (start j .args .verdicts .now)
+cut-verdicts : (j : tie.After-cut-into) → j .cut-into .last .1 .1 .1 .1 .1 .1 .1 .1 .1 .1 .1 .1 .0 ≡ ifAccepted (own (start j)) (verdicts (start j)) (start j .args .verdicts .now)
 cut-verdicts j = rw (held (start j)) at (j .cut-into .ensures .1 .1)
 
 -- a number other than 0 leaves both slices
 left : (s : tie.Start) → 0 < number s
     → (s .args .state .now ≡ ifAccepted (number s) (standingWritten (s .args .state .now) (values s)) (s .args .state .now)) × (s .args .verdicts .now ≡ ifAccepted (number s) (verdicts s) (s .args .verdicts .now))
 left s some = (sym (not-written (number s) (standingWritten (s .args .state .now) (values s)) (s .args .state .now) some), sym (not-written (number s) (verdicts s) (s .args .verdicts .now) some))
-
-whole-at-requires : tie.Need-whole-at-requires
-whole-at-requires c κs = search needs
-
-same-length : tie.Need-same-length
-same-length c = search needs
-
-accepted-is : (c : tie.After-whole-at) → c .whole-at .result ≡ standingIn (c .before .before .args .state .now) .accepted
-accepted-is c = c .whole-at .ensures ∙ sym (accepted-in (c .before .before .args .state .now) (values (c .before .before)))
 
 returns : tie.Need-returns
 returns c =
@@ -79,18 +75,6 @@ returns c =
     let e : number s ≡ 12 = full (market s) (standingIn (s .args .state .now)) (values s) l in
     let some : 0 < number s = rw e (lit< tt) in
     (sym e, left s some)
-
-cut-into-requires : tie.Need-cut-into-requires
-cut-into-requires c κs = search needs
-
-enum-told : tie.Need-enum-told
-enum-told c = search needs
-
-enum-told-2 : tie.Need-enum-told-2
-enum-told-2 c = search needs
-
-same-length-2 : tie.Need-same-length-2
-same-length-2 c = search needs
 
 -- fewer than four are accepted: the interval's own number
 its-own : (j : tie.After-cut-into) → number (start j) ≡ own (start j)
@@ -102,52 +86,12 @@ its-own j =
 
 returns-2 : tie.Need-returns-2
 returns-2 c =
-    let j = c .before .before .before in
+    let j = c .before in
     let s = start j in
-    let k = c .enum-told2 .given in
-    let mine : 0 < own s = rw (← cut-number j, k .1) (refused-number (k .0 .0)) in
-    let some : 0 < number s = rw (its-own j) mine in
-    let r = left s some in
-    let kept = cut-cells j ∙ not-written (own s) (cutsTo (market s) (values s) 1 (market s .resources) (s .args .state .now)) (s .args .state .now) mine in
-    (cut-number j ∙ sym (its-own j), (kept ∙ r .0, same-number (number s) (own s) _ (verdicts s) (s .args .verdicts .now) (its-own j) (cut-verdicts j)))
-
-add-put-whole : tie.Need-add-put-whole
-add-put-whole c = search needs
-
-put-whole-requires : tie.Need-put-whole-requires
-put-whole-requires c κs = search needs
-
-same-length-3 : tie.Need-same-length-3
-same-length-3 c = search needs
-
-returns-3 : tie.Need-returns-3
-returns-3 c =
-    let p = c .before in
-    let t = p .before .before in
-    let j = t .before .before .before in
-    let s = start j in
-    let passed : own s ≡ 0 = sym (cut-number j) ∙ ap outcomeNumber (t .enum-told .given .1) in
-    let a = j .before .before .before .before in (
-      cut-number j ∙ sym (its-own j),
-      (
-        interval-written (s .args .state .now) (values s) (j .cut-into .last .0) (p .put-whole .last .0) (number s) (its-own j) passed (cut-cells j) (rw (accepted-is a) at (p .put-whole .ensures)),
-        same-number (number s) (own s) _ (verdicts s) (s .args .verdicts .now) (its-own j) (cut-verdicts j),
-      ),
-    )
+    let a = s .args in
+    let e = its-own j in
+    (cut-number j ∙ sym e, (same-number (number s) (own s) _ (standingWritten (a .state .now) (values s)) (a .state .now) e (cut-cells j), same-number (number s) (own s) _ (verdicts s) (a .verdicts .now) e (cut-verdicts j)))
 
 pub take-into-spec : {M : Type 1} → statement M
 take-into-spec =
-    tie.close
-    (tie.spec
-    whole-at-requires
-    same-length
-    returns
-    cut-into-requires
-    enum-told
-    enum-told-2
-    same-length-2
-    returns-2
-    add-put-whole
-    put-whole-requires
-    same-length-3
-    returns-3)
+    tie.close (tie.spec (λ c κs. search needs) (λ c. search needs) returns (λ c. search needs) (λ c κs. search needs) (λ c. search needs) returns-2)

@@ -10,26 +10,11 @@ use Rattle.rules_text.proofs.RowLaws.{id-no-row, id-other, id-same}
 use Rattle.text_lines.proofs.id_row_at.Statement.{statement}
 use Rattle.text_lines.proofs.id_row_at.Tie as tie
 
-row-at-requires : tie.Need-row-at-requires
-row-at-requires c κs = search needs
-
-no-row-requires : tie.Need-no-row-requires
-no-row-requires c κs = search needs
-
 returns : tie.Need-returns
 returns c =
     let r = c .before .before .before .before in
     let a = r .before .before .args in
     c .no-row .ensures ∙ id-no-row (a .n) (a .s .now) (a .at) (a .k) (r .row-at .result) (r .row-at .ensures) (not-true (r .row-at .result .ok) (c .before .if1 .taken))
-
-array-copy-out-is-id : tie.Need-array-copy-out-is-id
-array-copy-out-is-id c = search needs
-
-is-id-requires : tie.Need-is-id-requires
-is-id-requires c κs = search needs
-
-no-row-requires-2 : tie.Need-no-row-requires-2
-no-row-requires-2 c κs = search needs
 
 -- the test is of the first value
 tests : (c : tie.After-is-id) → c .is-id .result ≡ eqZ (pos (c .before .before .before .before .before .before .before .args .n)) (getD (c .before .before .before .before .before .row-at .result .v) 0 (pos 0))
@@ -51,13 +36,5 @@ returns-3 c =
 
 pub id-row-at-spec : {M : Type 1} → statement M
 id-row-at-spec =
-    tie.close
-    (tie.spec
-    row-at-requires
-    no-row-requires
-    returns
-    array-copy-out-is-id
-    is-id-requires
-    no-row-requires-2
-    returns-2
-    returns-3)
+    tie.close (tie.spec (λ c κs. search needs) (λ c κs. search needs) returns (λ c. search needs) (λ c κs. search needs) (λ c κs. search needs)
+    returns-2 returns-3)

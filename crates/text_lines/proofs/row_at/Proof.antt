@@ -16,16 +16,10 @@ Inv-loop s at k v₀ p₀ i₀ v p i = Rowing s at k v p i
 abbrev μ-loop : tie.MeasureT-loop
 μ-loop s at k v₀ p₀ i₀ v p i = k - i
 
-no-row-requires : tie.Need-no-row-requires Inv-loop μ-loop
-no-row-requires c κs = search needs
-
 returns : tie.Need-returns Inv-loop μ-loop
 returns c =
     let a = c .before .before .before .args in
     c .no-row .ensures ∙ row-out (λ o. o) (a .s .now) (a .at) (a .k) (below-range (a .k) (c .before .if1 .taken))
-
-no-row-requires-2 : tie.Need-no-row-requires-2 Inv-loop μ-loop
-no-row-requires-2 c κs = search needs
 
 returns-2 : tie.Need-returns-2 Inv-loop μ-loop
 returns-2 c =
@@ -35,18 +29,6 @@ returns-2 c =
 loop-holds : tie.Need-loop-holds Inv-loop μ-loop
 loop-holds c = let a = c .before .before .before .args in rowing-start (a .s .now) (a .at) (a .k) (c .before .if1 .left)
 
-sub-closing : tie.Need-sub-closing Inv-loop μ-loop
-sub-closing c = omega arith
-
-sub-closing-2 : tie.Need-sub-closing-2 Inv-loop μ-loop
-sub-closing-2 c = omega arith
-
-closing-requires : tie.Need-closing-requires Inv-loop μ-loop
-closing-requires c κs = search needs
-
-closed-at-requires : tie.Need-closed-at-requires Inv-loop μ-loop
-closed-at-requires c κs = search needs
-
 -- the number that is read, as the laws have it
 answers : (c : tie.After-closed-at Inv-loop μ-loop)
     → c .closed-at .result
@@ -55,15 +37,6 @@ answers c =
     let l = c .before .before .before in
     let s = l .before .before .before .before .args .s .now in
     c .closed-at .ensures ∙ ap (λ (b : ℕ). closedBy s b (numberAt s (l .loop .p))) (c .before .closing .ensures)
-
-enum-known-x : tie.Need-enum-known-x Inv-loop μ-loop
-enum-known-x c = search needs
-
-enum-told : tie.Need-enum-told Inv-loop μ-loop
-enum-told c = search needs
-
-no-row-requires-3 : tie.Need-no-row-requires-3 Inv-loop μ-loop
-no-row-requires-3 c κs = search needs
 
 returns-3 : tie.Need-returns-3 Inv-loop μ-loop
 returns-3 c =
@@ -75,18 +48,6 @@ returns-3 c =
     c .no-row3 .ensures
     ∙ row-none (a .s .now) (a .at) (a .k) (in-range (a .k) (r .before .if1 .left) (r .if2 .left))
     (rowing-missing (a .s .now) (a .at) (a .k) (l .loop .v) (l .loop .p) (l .loop .i) (l .loop .inv) (x .before .before .loop-test .taken) (sym (e .enum-told .given .1) ∙ answers x))
-
-mul-v : tie.Need-mul-v Inv-loop μ-loop
-mul-v c = omega arith
-
-array-set-from-v : tie.Need-array-set-from-v Inv-loop μ-loop
-array-set-from-v c = omega arith
-
-add-i : tie.Need-add-i Inv-loop μ-loop
-add-i c = omega arith
-
-loop-less : tie.Need-loop-less Inv-loop μ-loop
-loop-less c = omega arith
 
 loop-again : tie.Need-loop-again Inv-loop μ-loop
 loop-again c =
@@ -109,26 +70,6 @@ returns-4 c =
 
 pub row-at-spec : {M : Type 1} → statement M
 row-at-spec =
-    tie.close
-    (tie.spec
-    Inv-loop
-    μ-loop
-    no-row-requires
-    returns
-    no-row-requires-2
-    returns-2
-    loop-holds
-    sub-closing
-    sub-closing-2
-    closing-requires
-    closed-at-requires
-    enum-known-x
-    enum-told
-    no-row-requires-3
-    returns-3
-    mul-v
-    array-set-from-v
-    add-i
-    loop-less
-    loop-again
-    returns-4)
+    tie.close (tie.spec Inv-loop μ-loop (λ c κs. search needs) returns (λ c κs. search needs) returns-2 loop-holds (λ c. omega arith)
+    (λ c. omega arith) (λ c κs. search needs) (λ c κs. search needs) (λ c. search needs) (λ c. search needs) (λ c κs. search needs) returns-3
+    (λ c. omega arith) (λ c. omega arith) (λ c. omega arith) (λ c. omega arith) loop-again returns-4)

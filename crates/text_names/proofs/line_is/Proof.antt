@@ -1,16 +1,33 @@
 -- `text_names::line_is` meets its contract. Assumes nothing.
-use Prim.Native.Nat.{_+_, _-_, _≤_}
+use Prim.Native.Nat.{ℕ, _+_, _-_, _≤_}
 use native.Mathlib.Omega.{arith}
 use native.Mathlib.Nat.{add-zero}
 use mathlib.Core.Path.{_≡_, sym, _∙_}
+use mathlib.Core.List.{List}
 use borrow.Author.Needs.{needs}
 use lib.ListN.{length, length-take, length-drop, take, drop}
 use lib.Seq.{take-all}
+use Rattle.rules_text.specs.Words.{wordIn}
 use Rattle.rules_text.specs.Offsets.{namesAt}
 use Rattle.rules_text.proofs.NameLaws.{names-empty, names-past, names-short}
-use Rattle.rules_text.proofs.WordLaws.{Bytes, word-more, word-other}
+use Rattle.rules_text.proofs.WordLaws.{Bytes, two-at, four-at, eight-at, word-more, word-other}
+use Rattle.text_names.specs.Pairs.{wordAt}
 use Rattle.text_names.proofs.line_is.Statement.{statement}
 use Rattle.text_names.proofs.line_is.Tie as tie
+
+-- a word is eight bytes
+word-is : (s : List ℕ) (at : ℕ) → at + 8 ≤ length s → wordAt s at ≡ wordIn 8 (drop at s)
+word-is s at h =
+    omega (
+      arith,
+      eight-at s at h,
+      four-at s at (omega arith),
+      four-at s (at + 4) (omega arith),
+      two-at s at (omega arith),
+      two-at s (at + 2) (omega arith),
+      two-at s (at + 4) (omega arith),
+      two-at s (at + 4 + 2) (omega arith),
+    )
 
 -- what is left of the wanted bytes stands there exactly where all of them do
 abbrev Inv-loop : tie.InvT-loop
@@ -31,26 +48,28 @@ returns c = let a = c .before .before .before .args in names-empty (a .s .now) (
 returns-2 : tie.Need-returns-2 Inv-loop μ-loop
 returns-2 c = let a = c .before .before .before .before .args in names-past (a .s .now) (a .at) (a .want .now) (c .if2 .taken) (c .before .if1 .left)
 
-sub-if3 : tie.Need-sub-if3 Inv-loop μ-loop
-sub-if3 c = omega arith
-
 returns-3 : tie.Need-returns-3 Inv-loop μ-loop
 returns-3 c = let a = c .before .before .before .before .before .args in names-short (a .s .now) (a .at) (a .want .now) (omega arith)
 
 loop-holds : tie.Need-loop-holds Inv-loop μ-loop
 loop-holds c = (omega arith, rw (add-zero (c .before .before .before .before .before .args .at)))
 
-sub-loop : tie.Need-sub-loop Inv-loop μ-loop
-sub-loop c = omega arith
+-- the two words
+text-word : (c : tie.After-word-at2 Inv-loop μ-loop)
+    → let l = c .before .before .before in
+    let a = l .before .before .before .before .before .before .args in
+    c .before .word-at .result ≡ wordIn 8 (drop (a .at + l .loop .i) (a .s .now))
+text-word c =
+    let l = c .before .before .before in
+    let a = l .before .before .before .before .before .before .args in
+    c .before .word-at .ensures ∙ word-is (a .s .now) (a .at + l .loop .i) (omega arith)
 
-add-word-at : tie.Need-add-word-at Inv-loop μ-loop
-add-word-at c = omega arith
-
-word-at-requires : tie.Need-word-at-requires Inv-loop μ-loop
-word-at-requires c κs = omega arith
-
-word-at-requires-2 : tie.Need-word-at-requires-2 Inv-loop μ-loop
-word-at-requires-2 c κs = omega arith
+want-word : (c : tie.After-word-at2 Inv-loop μ-loop)
+    → let l = c .before .before .before in
+    c .word-at2 .result ≡ wordIn 8 (drop (l .loop .i) (l .before .before .before .before .before .before .args .want .now))
+want-word c =
+    let l = c .before .before .before in
+    c .word-at2 .ensures ∙ word-is (l .before .before .before .before .before .before .args .want .now) (l .loop .i) (omega arith)
 
 returns-4 : tie.Need-returns-4 Inv-loop μ-loop
 returns-4 c =
@@ -58,13 +77,7 @@ returns-4 c =
     let k = l .before .before .before .before in
     let a = k .before .before .args in
     let e = word-other (a .s .now) (a .at) (a .want .now) (l .loop .i) (text-bytes (c .before)) (want-bytes (c .before)) (omega arith) (omega arith) in
-    e (λ q. c .if4 .taken (c .before .before .word-at .ensures ∙ q ∙ sym (c .before .word-at2 .ensures))) ∙ l .loop .inv .1
-
-add-i : tie.Need-add-i Inv-loop μ-loop
-add-i c = omega arith
-
-loop-less : tie.Need-loop-less Inv-loop μ-loop
-loop-less c = omega arith
+    e (λ q. c .if4 .taken (text-word (c .before) ∙ q ∙ sym (want-word (c .before)))) ∙ l .loop .inv .1
 
 loop-again : tie.Need-loop-again Inv-loop μ-loop
 loop-again c =
@@ -72,19 +85,7 @@ loop-again c =
     let k = l .before .before .before .before in
     let a = k .before .before .args in
     let e = word-more (a .s .now) (a .at) (a .want .now) (l .loop .i) (text-bytes (c .before)) (want-bytes (c .before)) (omega arith) (omega arith) in
-    (omega arith, e (sym (c .before .before .word-at .ensures) ∙ c .if4 .left ∙ c .before .word-at2 .ensures) ∙ l .loop .inv .1)
-
-add-bytes-are : tie.Need-add-bytes-are Inv-loop μ-loop
-add-bytes-are c = omega arith
-
-sub-bytes-are : tie.Need-sub-bytes-are Inv-loop μ-loop
-sub-bytes-are c = search needs
-
-part-bytes-are-start : tie.Need-part-bytes-are-start Inv-loop μ-loop
-part-bytes-are-start c = search needs
-
-part-bytes-are-end : tie.Need-part-bytes-are-end Inv-loop μ-loop
-part-bytes-are-end c = search needs
+    (omega arith, e (sym (text-word (c .before)) ∙ c .if4 .left ∙ want-word (c .before)) ∙ l .loop .inv .1)
 
 bytes-are-requires : tie.Need-bytes-are-requires Inv-loop μ-loop
 bytes-are-requires c κs = simp (length-take, length-drop) (omega arith)
@@ -98,26 +99,6 @@ returns-5 c =
 
 pub line-is-spec : {M : Type 1} → statement M
 line-is-spec =
-    tie.close
-    (tie.spec
-    Inv-loop
-    μ-loop
-    returns
-    returns-2
-    sub-if3
-    returns-3
-    loop-holds
-    sub-loop
-    add-word-at
-    word-at-requires
-    word-at-requires-2
-    returns-4
-    add-i
-    loop-less
-    loop-again
-    add-bytes-are
-    sub-bytes-are
-    part-bytes-are-start
-    part-bytes-are-end
-    bytes-are-requires
-    returns-5)
+    tie.close (tie.spec Inv-loop μ-loop returns returns-2 (λ c. omega arith) returns-3 loop-holds (λ c. omega arith) (λ c. omega arith)
+    (λ c κs. omega arith) (λ c κs. omega arith) returns-4 (λ c. omega arith) (λ c. omega arith) loop-again (λ c. omega arith) (λ c. search needs)
+    (λ c. search needs) (λ c. search needs) bytes-are-requires returns-5)

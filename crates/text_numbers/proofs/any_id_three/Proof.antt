@@ -11,12 +11,6 @@ use Rattle.rules_text.proofs.RowLaws.{id-no-row, id-other, id-same}
 use Rattle.text_numbers.proofs.any_id_three.Statement.{statement}
 use Rattle.text_numbers.proofs.any_id_three.Tie as tie
 
-any-three-requires : tie.Need-any-three-requires
-any-three-requires c κs = search needs
-
-no-three-requires : tie.Need-no-three-requires
-no-three-requires c κs = search needs
-
 returns : tie.Need-returns
 returns c =
     let r = c .before .before .before in
@@ -24,12 +18,6 @@ returns c =
     c .no-three .ensures
     ∙ ap threeOf (id-no-row (a .n) (a .s .now) (a .at) 3 (rowAt (a .s .now) (a .at) 3) refl
     (sym (ap (λ (w : Three). w .ok) (r .any-three .ensures)) ∙ not-true (r .any-three .result .ok) (c .before .if1 .taken)))
-
-is-id-requires : tie.Need-is-id-requires
-is-id-requires c κs = search needs
-
-no-three-requires-2 : tie.Need-no-three-requires-2
-no-three-requires-2 c κs = search needs
 
 -- the test is of the first value
 tests : (c : tie.After-is-id)
@@ -60,12 +48,4 @@ returns-3 c =
 
 pub any-id-three-spec : {M : Type 1} → statement M
 any-id-three-spec =
-    tie.close
-    (tie.spec
-    any-three-requires
-    no-three-requires
-    returns
-    is-id-requires
-    no-three-requires-2
-    returns-2
-    returns-3)
+    tie.close (tie.spec (λ c κs. search needs) (λ c κs. search needs) returns (λ c κs. search needs) (λ c κs. search needs) returns-2 returns-3)

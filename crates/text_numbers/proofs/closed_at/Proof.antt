@@ -18,27 +18,6 @@ returns c =
     let a = c .before .before .args in
     closed-end (a .s .now) (a .b) (a .at) (c .if1 .taken)
 
-sub-if2 : tie.Need-sub-if2
-sub-if2 c = search needs
-
-late-at-requires : tie.Need-late-at-requires
-late-at-requires c κs = search needs
-
-returns-2 : tie.Need-returns-2
-returns-2 c = search needs
-
-digits-in-requires : tie.Need-digits-in-requires
-digits-in-requires c κs = search needs
-
-negative-at-requires : tie.Need-negative-at-requires
-negative-at-requires c κs = search needs
-
-returns-3 : tie.Need-returns-3
-returns-3 c = search needs
-
-closes-requires : tie.Need-closes-requires
-closes-requires c κs = search needs
-
 returns-4 : tie.Need-returns-4
 returns-4 c =
     let k = c .before in
@@ -79,18 +58,5 @@ returns-5 c =
 
 pub closed-at-spec : {M : Type 1} → statement M
 closed-at-spec =
-    tie.close
-    (tie.spec
-    returns
-    sub-if2
-    late-at-requires
-    returns-2
-    digits-in-requires
-    negative-at-requires
-    returns-3
-    closes-requires
-    returns-4
-    plus-requires
-    add-t6
-    add-t8
-    returns-5)
+    tie.close (tie.spec returns (λ c. search needs) (λ c κs. search needs) (λ c. search needs) (λ c κs. search needs) (λ c κs. search needs)
+    (λ c. search needs) (λ c κs. search needs) returns-4 plus-requires add-t6 add-t8 returns-5)

@@ -27,11 +27,6 @@ returns-2 c =
 digits-in-requires-2 : tie.Need-digits-in-requires-2
 digits-in-requires-2 c κs = (omega arith, omega arith)
 
-returns-3 : tie.Need-returns-3
-returns-3 c = search needs
-
-sub-left : tie.Need-sub-left
-sub-left c = omega arith
-
 pub digits-at-spec : {M : Type 1} → statement M
-digits-at-spec = tie.close (tie.spec returns sub-left digits-in-requires returns-2 digits-in-requires-2 returns-3)
+digits-at-spec =
+    tie.close (tie.spec returns (λ c. omega arith) digits-in-requires returns-2 digits-in-requires-2 (λ c. search needs))

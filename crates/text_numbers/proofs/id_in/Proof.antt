@@ -8,23 +8,8 @@ use borrow.Author.Needs.{needs}
 use Rattle.text_numbers.proofs.id_in.Statement.{statement}
 use Rattle.text_numbers.proofs.id_in.Tie as tie
 
-shared-slice-read-wide : tie.Need-shared-slice-read-wide
-shared-slice-read-wide c = search needs
-
-wide-requires : tie.Need-wide-requires
-wide-requires c κs = search needs
-
-wrapping-sub-u64-requires : tie.Need-wrapping-sub-u64-requires
-wrapping-sub-u64-requires c κs = search needs
-
-add-if1 : tie.Need-add-if1
-add-if1 c = search needs
-
-shared-slice-read-if1 : tie.Need-shared-slice-read-if1
-shared-slice-read-if1 c = search needs
-
 returns : tie.Need-returns
-returns c = ((omega arith, omega arith), λ h. absurd (h refl))
+returns c = ((omega arith, omega arith), λ h. absurd (h (c .no-number .ensures .1)))
 
 returns-2 : tie.Need-returns-2
 returns-2 c =
@@ -34,43 +19,16 @@ returns-2 c =
     let a = s .args in
     let n = f .wrapping-sub-u64 .result in
     let b = digit-of _ n (f .wrapping-sub-u64 .ensures ∙ f .before .wide .ensures) (c .if2 .left) in
-    ((omega (arith, c .if2 .left), omega arith), λ h. one-same (a .s .now) (a .at) n (s .pre) (a .at + 1 + 1) (omega arith) (omega (arith, c .if2 .left)) (omega (arith, b)) (t .if1 .taken))
-
-wrapping-sub-u64-requires-2 : tie.Need-wrapping-sub-u64-requires-2
-wrapping-sub-u64-requires-2 c κs = search needs
+    ((omega (arith, c .if2 .left), omega arith), λ h. one-same (a .s .now) (a .at) n (s .pre) (a .at + 2) refl (omega (arith, c .if2 .left)) (omega (arith, b)) (t .if1 .taken))
 
 returns-3 : tie.Need-returns-3
-returns-3 c = ((omega arith, omega arith), λ h. absurd (h refl))
-
-add-wide : tie.Need-add-wide
-add-wide c = search needs
-
-shared-slice-read-wide-2 : tie.Need-shared-slice-read-wide-2
-shared-slice-read-wide-2 c = search needs
-
-wide-requires-2 : tie.Need-wide-requires-2
-wide-requires-2 c κs = search needs
-
-wrapping-sub-u64-requires-3 : tie.Need-wrapping-sub-u64-requires-3
-wrapping-sub-u64-requires-3 c κs = search needs
+returns-3 c = ((omega arith, omega arith), λ h. absurd (h (c .no-number2 .ensures .1)))
 
 returns-4 : tie.Need-returns-4
-returns-4 c = ((omega arith, omega arith), λ h. absurd (h refl))
-
-add-if5 : tie.Need-add-if5
-add-if5 c = search needs
-
-shared-slice-read-if5 : tie.Need-shared-slice-read-if5
-shared-slice-read-if5 c = search needs
+returns-4 c = ((omega arith, omega arith), λ h. absurd (h (c .no-number3 .ensures .1)))
 
 returns-5 : tie.Need-returns-5
-returns-5 c = ((omega arith, omega arith), λ h. absurd (h refl))
-
-mul-t5 : tie.Need-mul-t5
-mul-t5 c = search needs
-
-add-t14 : tie.Need-add-t14
-add-t14 c = search needs
+returns-5 c = ((omega arith, omega arith), λ h. absurd (h (c .no-number4 .ensures .1)))
 
 returns-6 : tie.Need-returns-6
 returns-6 c =
@@ -87,31 +45,13 @@ returns-6 c =
     let x = digit-of _ m (f .wrapping-sub-u64 .ensures ∙ f .before .wide .ensures) (l .1) in
     let y = digit-of _ n (g .wrapping-sub-u643 .ensures ∙ g .before .wide2 .ensures) (w .if4 .left) in (
       (omega (arith, l .1, w .if4 .left), omega arith),
-      λ o. two-same (a .s .now) (a .at) (m * 10 + n) (s .pre) (a .at + 2 + 1) (omega arith) (omega (arith, l .0)) (omega (arith, l .1, w .if4 .left))
+      λ o. two-same (a .s .now) (a .at) (m * 10 + n) (s .pre) (a .at + 3) refl (omega (arith, l .0)) (omega (arith, l .1, w .if4 .left))
           (omega (arith, x, w .if4 .left)) (omega (arith, y, w .if4 .left)) (c .if5 .left),
     )
 
 pub id-in-spec : {M : Type 1} → statement M
 id-in-spec =
-    tie.close
-    (tie.spec
-    shared-slice-read-wide
-    wide-requires
-    wrapping-sub-u64-requires
-    add-if1
-    shared-slice-read-if1
-    returns
-    returns-2
-    wrapping-sub-u64-requires-2
-    returns-3
-    add-wide
-    shared-slice-read-wide-2
-    wide-requires-2
-    wrapping-sub-u64-requires-3
-    returns-4
-    add-if5
-    shared-slice-read-if5
-    returns-5
-    mul-t5
-    add-t14
-    returns-6)
+    tie.close (tie.spec (λ c. search needs) (λ c κs. search needs) (λ c κs. search needs) (λ c. search needs) (λ c. search needs)
+    (λ c κs. search needs) returns (λ c. search needs) returns-2 (λ c κs. search needs) (λ c κs. search needs) returns-3 (λ c. search needs)
+    (λ c. search needs) (λ c κs. search needs) (λ c κs. search needs) (λ c κs. search needs) returns-4 (λ c. search needs) (λ c. search needs)
+    (λ c κs. search needs) returns-5 (λ c. search needs) (λ c. search needs) (λ c. search needs) returns-6)

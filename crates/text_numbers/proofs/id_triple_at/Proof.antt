@@ -1,6 +1,5 @@
 -- `text_numbers::id_triple_at` meets its contract. Assumes nothing.
 use native.Mathlib.Omega.{arith}
-use borrow.Author.Tests.{not-false}
 use mathlib.Core.Path.{ap, _∙_}
 use Rattle.rules_text.specs.Offsets.{threeOf}
 use Rattle.text_numbers.proofs.ShortLaws.{id-same, id-other}
@@ -8,66 +7,39 @@ use borrow.Author.Needs.{needs}
 use Rattle.text_numbers.proofs.id_triple_at.Statement.{statement}
 use Rattle.text_numbers.proofs.id_triple_at.Tie as tie
 
-is-near-requires : tie.Need-is-near-requires
-is-near-requires c κs = search needs
-
-any-id-three-requires : tie.Need-any-id-three-requires
-any-id-three-requires c κs = search needs
-
-returns : tie.Need-returns
-returns c = search needs
-
-past-id-requires : tie.Need-past-id-requires
-past-id-requires c κs =
-    let n = c .before in
-    let h = n .is-near .ensures (not-false (n .is-near .result) (c .if1 .left)) in
+past-head-requires : tie.Need-past-head-requires
+past-head-requires c κs =
+    let h = c .before .near-end .ensures (c .before .before .before .args .at) (omega (arith, c .if1 .left)) in
     (h .0, omega (arith, h .1))
-
-no-three-requires : tie.Need-no-three-requires
-no-three-requires c κs = search needs
 
 returns-2 : tie.Need-returns-2
 returns-2 c =
     let p = c .before .before in
     let a = p .before .before .before .before .args in
-    c .no-three .ensures ∙ ap threeOf (id-other (a .s .now) (a .at) (a .n) (p .past-id .ensures .1 .1 (c .before .if2 .taken)))
+    c .no-three .ensures ∙ ap threeOf (id-other (a .s .now) (a .at) (a .n) (p .past-head .ensures .1 .1 (c .before .if2 .taken)))
 
 id-and-numbers-requires : tie.Need-id-and-numbers-requires
 id-and-numbers-requires c κs =
     let p = c .before in
     let e = p .before in
-    let n = e .before in
-    let h = n .is-near .ensures (not-false (n .is-near .result) (e .if1 .left)) in
-    (h .0, omega (arith, h .1, p .past-id .ensures .0), p .past-id .ensures .1 .0 (c .if2 .left))
+    let h = e .before .near-end .ensures (e .before .before .before .args .at) (omega (arith, e .if1 .left)) in
+    (h .0, omega (arith, h .1, p .past-head .ensures .0), p .past-head .ensures .1 .0 (c .if2 .left))
 
 returns-3 : tie.Need-returns-3
 returns-3 c =
     let e = c .before .before in
     let p = e .before in
     let a = p .before .before .before .before .args in
-    c .before .id-and-numbers .ensures (c .if3 .taken) ∙ ap threeOf (id-same (a .s .now) (a .at) (a .n) (p .past-id .result) (p .past-id .ensures .1 .0 (e .if2 .left)))
-
-any-three-requires : tie.Need-any-three-requires
-any-three-requires c κs = search needs
+    c .before .id-and-numbers .ensures (c .if3 .taken) ∙ ap threeOf (id-same (a .s .now) (a .at) (a .n) (p .past-head .result) (p .past-head .ensures .1 .0 (e .if2 .left)))
 
 returns-4 : tie.Need-returns-4
 returns-4 c =
     let e = c .before .before .before in
     let p = e .before in
     let a = p .before .before .before .before .args in
-    c .any-three .ensures ∙ ap threeOf (id-same (a .s .now) (a .at) (a .n) (p .past-id .result) (p .past-id .ensures .1 .0 (e .if2 .left)))
+    c .any-three .ensures ∙ ap threeOf (id-same (a .s .now) (a .at) (a .n) (p .past-head .result) (p .past-head .ensures .1 .0 (e .if2 .left)))
 
 pub id-triple-at-spec : {M : Type 1} → statement M
 id-triple-at-spec =
-    tie.close
-    (tie.spec
-    is-near-requires
-    any-id-three-requires
-    returns
-    past-id-requires
-    no-three-requires
-    returns-2
-    id-and-numbers-requires
-    returns-3
-    any-three-requires
-    returns-4)
+    tie.close (tie.spec (λ c κs. search needs) (λ c κs. search needs) (λ c. search needs) past-head-requires (λ c κs. search needs) returns-2
+    id-and-numbers-requires returns-3 (λ c κs. search needs) returns-4)

@@ -14,23 +14,11 @@ use Rattle.rules_text.proofs.LineLaws.{number-ends}
 use Rattle.text_numbers.proofs.late_at.Statement.{statement}
 use Rattle.text_numbers.proofs.late_at.Tie as tie
 
-number-at-requires : tie.Need-number-at-requires
-number-at-requires c κs = search needs
-
-enum-known-x : tie.Need-enum-known-x
-enum-known-x c = search needs
-
-enum-told : tie.Need-enum-told
-enum-told c = search needs
-
 returns : tie.Need-returns
 returns c =
     let n = c .before .before in
     let a = n .before .before .args in
     ap (closedBy (a .s .now) (a .b)) (sym (c .enum-told .given .1) ∙ n .number-at .ensures)
-
-byte-at-requires : tie.Need-byte-at-requires
-byte-at-requires c κs = search needs
 
 -- the number that the byte closes, or does not
 number : (c : tie.After-byte-at)
@@ -66,13 +54,4 @@ returns-3 c =
 
 pub late-at-spec : {M : Type 1} → statement M
 late-at-spec =
-    tie.close
-    (tie.spec
-    number-at-requires
-    enum-known-x
-    enum-told
-    returns
-    byte-at-requires
-    returns-2
-    add-t9
-    returns-3)
+    tie.close (tie.spec (λ c κs. search needs) (λ c. search needs) (λ c. search needs) returns (λ c κs. search needs) returns-2 add-t9 returns-3)

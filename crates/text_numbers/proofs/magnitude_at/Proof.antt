@@ -7,9 +7,6 @@ use Rattle.rules_text.proofs.NumberLaws.{digit-there, mag-by}
 use Rattle.text_numbers.proofs.magnitude_at.Statement.{statement}
 use Rattle.text_numbers.proofs.magnitude_at.Tie as tie
 
-digits-at-requires : tie.Need-digits-at-requires
-digits-at-requires c κs = search needs
-
 is-number-requires : tie.Need-is-number-requires
 is-number-requires c κs =
     let a = c .before .before .args in
@@ -30,4 +27,4 @@ returns-2 c =
     sym (mag-by (a .s .now) (a .at) (d .result .value) (d .result .count) (d .ensures .0) (d .ensures .1) true (sym (k .is-number .ensures) ∙ not-false (k .is-number .result) (c .if1 .left)))
 
 pub magnitude-at-spec : {M : Type 1} → statement M
-magnitude-at-spec = tie.close (tie.spec digits-at-requires is-number-requires returns returns-2)
+magnitude-at-spec = tie.close (tie.spec (λ c κs. search needs) is-number-requires returns returns-2)

@@ -10,9 +10,6 @@ use Rattle.text_numbers.proofs.minus.Tie as tie
 abbrev away : tie.Start → Meant
 away c = const 0 ⊖ cast {n = c .args .v} {A = 1000000000000} (omega arith) tt
 
-cast-result : tie.Need-cast-result
-cast-result c = search needs
-
 sub-result : tie.Need-sub-result
 sub-result c = fits (away c) tt
 
@@ -20,4 +17,4 @@ returns : tie.Need-returns
 returns c = kept (away c) tt .same ∙ +ℤ-idl (negℤ (pos (c .args .v)))
 
 pub minus-spec : {M : Type 1} → statement M
-minus-spec = tie.close (tie.spec cast-result sub-result returns)
+minus-spec = tie.close (tie.spec (λ c. search needs) sub-result returns)

@@ -14,22 +14,10 @@ use Rattle.rules_text.proofs.NumberLaws.{closed-none, closed-negative, closed-s
 use Rattle.text_numbers.proofs.negative_at.Statement.{statement}
 use Rattle.text_numbers.proofs.negative_at.Tie as tie
 
-shared-slice-read-if1 : tie.Need-shared-slice-read-if1
-shared-slice-read-if1 c = search needs
-
 returns : tie.Need-returns
 returns c =
     let s = c .before .before .before in
     closed-none (s .args .s .now) (s .args .b) (s .args .at) (s .pre .1) (c .if1 .taken)
-
-add-from : tie.Need-add-from
-add-from c = search needs
-
-digits-in-requires : tie.Need-digits-in-requires
-digits-in-requires c κs = search needs
-
-closes-requires : tie.Need-closes-requires
-closes-requires c κs = search needs
 
 returns-2 : tie.Need-returns-2
 returns-2 c =
@@ -78,16 +66,5 @@ returns-4 c =
 
 pub negative-at-spec : {M : Type 1} → statement M
 negative-at-spec =
-    tie.close
-    (tie.spec
-    shared-slice-read-if1
-    returns
-    add-from
-    digits-in-requires
-    closes-requires
-    returns-2
-    returns-3
-    minus-requires
-    add-t12
-    add-t13
-    returns-4)
+    tie.close (tie.spec (λ c. search needs) returns (λ c. search needs) (λ c κs. search needs) (λ c κs. search needs) returns-2 returns-3
+    minus-requires add-t12 add-t13 returns-4)

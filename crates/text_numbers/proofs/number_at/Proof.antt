@@ -16,25 +16,10 @@ use Rattle.text_numbers.proofs.number_at.Tie as tie
 returns : tie.Need-returns
 returns c = let a = c .before .before .args in past-end (a .s .now) (a .at) (c .if1 .taken)
 
-shared-slice-read-sign-width : tie.Need-shared-slice-read-sign-width
-shared-slice-read-sign-width c = search needs
-
-sign-width-requires : tie.Need-sign-width-requires
-sign-width-requires c κs = search needs
-
 add-from : tie.Need-add-from
 add-from c =
     let a = c .before .before .before .before .args in
     omega (arith, width-most (a .s .now) (a .at) (c .sign-width .result) (c .sign-width .ensures))
-
-magnitude-at-requires : tie.Need-magnitude-at-requires
-magnitude-at-requires c κs = search needs
-
-enum-known-v : tie.Need-enum-known-v
-enum-known-v c = search needs
-
-enum-told : tie.Need-enum-told
-enum-told c = search needs
 
 returns-2 : tie.Need-returns-2
 returns-2 c =
@@ -86,19 +71,5 @@ returns-5 c =
 
 pub number-at-spec : {M : Type 1} → statement M
 number-at-spec =
-    tie.close
-    (tie.spec
-    returns
-    shared-slice-read-sign-width
-    sign-width-requires
-    add-from
-    magnitude-at-requires
-    enum-known-v
-    enum-told
-    returns-2
-    add-next
-    plus-requires
-    returns-3
-    returns-4
-    minus-requires
-    returns-5)
+    tie.close (tie.spec returns (λ c. search needs) (λ c κs. search needs) add-from (λ c κs. search needs) (λ c. search needs) (λ c. search needs)
+    returns-2 add-next plus-requires returns-3 returns-4 minus-requires returns-5)

@@ -5,11 +5,8 @@ use Rattle.rules_number.proofs.Meant.{cast}
 use Rattle.text_numbers.proofs.plus.Statement.{statement}
 use Rattle.text_numbers.proofs.plus.Tie as tie
 
-cast-result : tie.Need-cast-result
-cast-result c = search needs
-
 returns : tie.Need-returns
 returns c = cast {n = c .args .v} {A = 1000000000000} (omega arith) tt .same
 
 pub plus-spec : {M : Type 1} → statement M
-plus-spec = tie.close (tie.spec cast-result returns)
+plus-spec = tie.close (tie.spec (λ c. search needs) returns)

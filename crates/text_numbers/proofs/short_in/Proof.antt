@@ -1,74 +1,69 @@
 -- `text_numbers::short_in` meets its contract. Assumes nothing.
+use Prim.Native.Nat.{_-_, _^_, _<_}
 use native.Mathlib.Omega.{arith}
-use borrow.Author.Tests.{not-false}
-use mathlib.Core.Path.{sym, _∙_}
-use Rattle.text_numbers.proofs.ShortLaws.{short-is, digits-within}
 use borrow.Author.Needs.{needs}
+use mathlib.Core.Path.{_∙_}
+use Rattle.rules_text.proofs.NumberLaws.{ten-top}
+use Rattle.text_numbers.proofs.ShortLaws.{Run, run-first, run-more, short-is}
 use Rattle.text_numbers.proofs.short_in.Statement.{statement}
 use Rattle.text_numbers.proofs.short_in.Tie as tie
 
-digits-in-requires : tie.Need-digits-in-requires
-digits-in-requires c κs = search needs
+abbrev Inv-loop : tie.InvT-loop
+Inv-loop s at b first value₀ count₀ value count = Run s at value count
 
-no-digits-requires : tie.Need-no-digits-requires
-no-digits-requires c κs = search needs
+abbrev μ-loop : tie.MeasureT-loop
+μ-loop s at b first value₀ count₀ value count = 8 - count
 
-returns : tie.Need-returns
-returns c = λ h. absurd (h (c .no-digits .ensures))
+returns : tie.Need-returns Inv-loop μ-loop
+returns c = ((omega arith, omega arith), λ h. absurd (h (c .no-number .ensures .1)))
 
-is-number-requires : tie.Need-is-number-requires
-is-number-requires c κs =
-    let d = c .before in
-    let s = d .before .before in
-    λ h. omega (arith, digits-within (s .args .s .now) (s .args .at) (s .args .end) (d .digits-in .result .count) (s .pre .1) (d .digits-in .ensures .1))
+loop-holds : tie.Need-loop-holds Inv-loop μ-loop
+loop-holds c =
+    let f = c .before in
+    let s = f .before .before .before .before in
+    run-first (s .args .s .now) (s .args .at) (s .pre) (f .wrapping-sub-u64 .result) (f .wrapping-sub-u64 .ensures ∙ f .before .wide .ensures) (c .if1 .left)
 
-no-digits-requires-2 : tie.Need-no-digits-requires-2
-no-digits-requires-2 c κs = search needs
+returns-2 : tie.Need-returns-2 Inv-loop μ-loop
+returns-2 c = ((omega arith, omega arith), λ h. absurd (h (c .no-number2 .ensures .1)))
 
-returns-2 : tie.Need-returns-2
-returns-2 c = λ h. absurd (h (c .no-digits2 .ensures))
-
-add-if3 : tie.Need-add-if3
-add-if3 c =
-    let d = c .before .before .before in
-    let s = d .before .before in
-    omega (arith, s .good, digits-within (s .args .s .now) (s .args .at) (s .args .end) (d .digits-in .result .count) (s .pre .1) (d .digits-in .ensures .1))
-
-shared-slice-read-if3 : tie.Need-shared-slice-read-if3
-shared-slice-read-if3 c =
-    let e = c .before .before .before in
-    let d = e .before in
-    let s = d .before .before in
-    omega (arith, s .good, e .if1 .left, digits-within (s .args .s .now) (s .args .at) (s .args .end) (d .digits-in .result .count) (s .pre .1) (d .digits-in .ensures .1))
-
-no-digits-requires-3 : tie.Need-no-digits-requires-3
-no-digits-requires-3 c κs = search needs
-
-returns-3 : tie.Need-returns-3
-returns-3 c = λ h. absurd (h (c .no-digits3 .ensures))
-
-returns-4 : tie.Need-returns-4
-returns-4 c =
-    let n = c .before .before .before in
-    let e = n .before in
-    let d = e .before in
-    let s = d .before .before in
+returns-3 : tie.Need-returns-3 Inv-loop μ-loop
+returns-3 c =
+    let g = c .before in
+    let d = g .before in
+    let l = d .before .before .before .before in
+    let s = l .before .before .before .before .before .before in
     let a = s .args in
-    λ h. short-is (a .s .now) (a .at) (a .b) (a .end) (d .digits-in .result .value) (d .digits-in .result .count) (s .pre .1) (d .digits-in .ensures .0) (d .digits-in .ensures .1)
-    (e .if1 .left) (sym (n .is-number .ensures) ∙ not-false (n .is-number .result) (c .before .before .if2 .left)) (c .if3 .left)
+    let k = l .loop .count in
+    let r = l .loop .inv in
+    let t = d .before .before .before .loop-test .taken in (
+      (omega (arith, r .reads .small, ten-top k 12 (omega arith)), omega arith),
+      λ h. short-is (a .s .now) (a .at) (s .pre) (l .loop .value) k r (d .wrapping-sub-u642 .result) t
+          (d .wrapping-sub-u642 .ensures ∙ d .before .wide2 .ensures) (omega (arith, d .wrapping-sub-u642 .ok)) (g .if2 .taken) (a .b) (c .if3 .left),
+    )
+
+small : (c : tie.Else2 Inv-loop μ-loop) → let l = c .before .before .before .before .before .loop in l .value < 10 ^ 12
+small c = let l = c .before .before .before .before .before .loop in omega (arith, l .inv .reads .small, ten-top (l .count) 12 (omega arith))
+
+mul-value : tie.Need-mul-value Inv-loop μ-loop
+mul-value c = omega (arith, small c)
+
+add-value-2 : tie.Need-add-value-2 Inv-loop μ-loop
+add-value-2 c = omega (arith, small c)
+
+loop-again : tie.Need-loop-again Inv-loop μ-loop
+loop-again c =
+    let d = c .before in
+    let l = d .before .before .before .before in
+    let s = l .before .before .before .before .before .before in
+    run-more (s .args .s .now) (s .args .at) (s .pre) (l .loop .value) (l .loop .count) (l .loop .inv) (d .wrapping-sub-u642 .result) (d .before .before .before .loop-test .taken)
+    (d .wrapping-sub-u642 .ensures ∙ d .before .wide2 .ensures) (c .if2 .left)
+
+returns-4 : tie.Need-returns-4 Inv-loop μ-loop
+returns-4 c = ((omega arith, omega arith), λ h. absurd (h (c .no-number3 .ensures .1)))
 
 pub short-in-spec : {M : Type 1} → statement M
 short-in-spec =
-    tie.close
-    (tie.spec
-    digits-in-requires
-    no-digits-requires
-    returns
-    is-number-requires
-    no-digits-requires-2
-    returns-2
-    add-if3
-    shared-slice-read-if3
-    no-digits-requires-3
-    returns-3
-    returns-4)
+    tie.close (tie.spec Inv-loop μ-loop (λ c. search needs) (λ c κs. search needs) (λ c κs. search needs) (λ c κs. search needs) returns
+    (λ c. search needs) loop-holds (λ c. omega arith) (λ c. omega arith) (λ c κs. search needs) (λ c κs. search needs) (λ c κs. search needs)
+    returns-2 (λ c. omega arith) (λ c. omega arith) returns-3 mul-value add-value-2 (λ c. omega arith) (λ c. omega arith) loop-again
+    (λ c κs. search needs) returns-4)

@@ -20,45 +20,6 @@ returns c =
     let a = s .args in
     (verdict-length (a .verdict) (sixteen s), sym (sets-out (a .out .now) (a .at) (verdictCells (a .verdict)) (c .if1 .taken)))
 
-finding-number-requires : tie.Need-finding-number-requires
-finding-number-requires c κs = search needs
-
-put-whole-requires : tie.Need-put-whole-requires
-put-whole-requires c κs = search needs
-
-add-put-whole : tie.Need-add-put-whole
-add-put-whole c = search needs
-
-put-whole-requires-2 : tie.Need-put-whole-requires-2
-put-whole-requires-2 c κs = search needs
-
-add-put-whole-2 : tie.Need-add-put-whole-2
-add-put-whole-2 c = search needs
-
-put-whole-requires-3 : tie.Need-put-whole-requires-3
-put-whole-requires-3 c κs = search needs
-
-add-put-whole-3 : tie.Need-add-put-whole-3
-add-put-whole-3 c = search needs
-
-cast-put-whole : tie.Need-cast-put-whole
-cast-put-whole c = search needs
-
-put-whole-requires-4 : tie.Need-put-whole-requires-4
-put-whole-requires-4 c κs = search needs
-
-add-put-wholes : tie.Need-add-put-wholes
-add-put-wholes c = search needs
-
-slice-aggregate-put-wholes : tie.Need-slice-aggregate-put-wholes
-slice-aggregate-put-wholes c = search needs
-
-put-wholes-requires : tie.Need-put-wholes-requires
-put-wholes-requires c κs = search needs
-
-same-length : tie.Need-same-length
-same-length c = search needs
-
 returns-2 : tie.Need-returns-2
 returns-2 c =
     let p = c .before in
@@ -76,20 +37,6 @@ returns-2 c =
 
 pub put-verdict-spec : {M : Type 1} → statement M
 put-verdict-spec =
-    tie.close
-    (tie.spec
-    returns
-    finding-number-requires
-    put-whole-requires
-    add-put-whole
-    put-whole-requires-2
-    add-put-whole-2
-    put-whole-requires-3
-    add-put-whole-3
-    cast-put-whole
-    put-whole-requires-4
-    add-put-wholes
-    slice-aggregate-put-wholes
-    put-wholes-requires
-    same-length
-    returns-2)
+    tie.close (tie.spec returns (λ c κs. search needs) (λ c κs. search needs) (λ c. search needs) (λ c κs. search needs) (λ c. search needs)
+    (λ c κs. search needs) (λ c. search needs) (λ c. search needs) (λ c κs. search needs) (λ c. search needs) (λ c. search needs)
+    (λ c κs. search needs) (λ c. search needs) returns-2)

@@ -9,24 +9,6 @@ use borrow.Author.Needs.{needs}
 use Rattle.verdict_page.proofs.amount_of.Statement.{statement}
 use Rattle.verdict_page.proofs.amount_of.Tie as tie
 
-mul-x : tie.Need-mul-x
-mul-x c = search needs
-
-add-x : tie.Need-add-x
-add-x c = search needs
-
-add-x-2 : tie.Need-add-x-2
-add-x-2 c = search needs
-
-mul-x-2 : tie.Need-mul-x-2
-mul-x-2 c = search needs
-
-element-copy-out-x : tie.Need-element-copy-out-x
-element-copy-out-x c = search needs
-
-whole-requires : tie.Need-whole-requires
-whole-requires c κs = search needs
-
 returns : tie.Need-returns
 returns c =
     let x = c .before in
@@ -36,4 +18,5 @@ returns c =
 
 pub amount-of-spec : {M : Type 1} → statement M
 amount-of-spec =
-    tie.close (tie.spec mul-x add-x add-x-2 mul-x-2 element-copy-out-x whole-requires returns)
+    tie.close (tie.spec (λ c. search needs) (λ c. search needs) (λ c. search needs) (λ c. search needs) (λ c. search needs) (λ c κs. search needs)
+    returns)

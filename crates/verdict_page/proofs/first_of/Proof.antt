@@ -8,12 +8,6 @@ use borrow.Author.Needs.{needs}
 use Rattle.verdict_page.proofs.first_of.Statement.{statement}
 use Rattle.verdict_page.proofs.first_of.Tie as tie
 
-amount-of-requires : tie.Need-amount-of-requires
-amount-of-requires c κs = search needs
-
-amount-of-requires-2 : tie.Need-amount-of-requires-2
-amount-of-requires-2 c κs = search needs
-
 -- what each portfolio withholds
 abbrev weight : tie.Start → ℕ → ℕ
 weight s = weightIn (withheldIn (s .args .verdicts .now) (s .args .c))
@@ -44,4 +38,4 @@ returns-3 c =
 
 pub first-of-spec : {M : Type 1} → statement M
 first-of-spec =
-    tie.close (tie.spec amount-of-requires amount-of-requires-2 returns returns-2 returns-3)
+    tie.close (tie.spec (λ c κs. search needs) (λ c κs. search needs) returns returns-2 returns-3)

@@ -6,15 +6,6 @@ use borrow.Author.Needs.{needs}
 use Rattle.verdict_page.proofs.named_by.Statement.{statement}
 use Rattle.verdict_page.proofs.named_by.Tie as tie
 
-shown-cell-requires : tie.Need-shown-cell-requires
-shown-cell-requires c κs = search needs
-
-whole-requires : tie.Need-whole-requires
-whole-requires c κs = search needs
-
-cast-result : tie.Need-cast-result
-cast-result c = search needs
-
 returns : tie.Need-returns
 returns c =
     let k = c .before in
@@ -23,4 +14,5 @@ returns c =
     ap (λ (n : ℕ). n % 4294967296) (simp fs at (c .whole .ensures))
 
 pub named-by-spec : {M : Type 1} → statement M
-named-by-spec = tie.close (tie.spec shown-cell-requires whole-requires cast-result returns)
+named-by-spec =
+    tie.close (tie.spec (λ c κs. search needs) (λ c κs. search needs) (λ c. search needs) returns)

@@ -57,7 +57,8 @@ stage1 : (c : tie.After-put-names) → Stage (else1 c) (c .put-names .last .0) (
 unfolding verdictText
 stage1 c =
     let s = start (else1 c) in
-    (putting-next (putting-start (s .args .out .now) (s .args .at) (page s)) verdictNames (rest1 s) (c .put-names .last .0) (c .put-names .result) refl (c .put-names .ensures .0) (c .put-names .ensures .1), omega (arith, c .put-names .ensures .1))
+    let e = c .put-names .ensures .1 .1 (omega (arith, room (else1 c))) in
+    (putting-next (putting-start (s .args .out .now) (s .args .at) (page s)) verdictNames (rest1 s) (c .put-names .last .0) (c .put-names .result) refl (e .0) (e .1), omega (arith, e .1))
 
 stage2 : (c : tie.After-put-verdicts) → Stage (else2 c) (c .put-verdicts .last .0) (c .put-verdicts .result) (rest2 (start (else2 c))) 3400
 stage2 c =
@@ -69,16 +70,14 @@ stage3 : (c : tie.After-put-names2) → Stage (else3 c) (c .put-names2 .last .0)
 stage3 c =
     let s = start (else3 c) in
     let k = stage2 (c .before .before .before .before .before) in
-    (putting-next (k .0) sellerNames (rest3 s) (c .put-names2 .last .0) (c .put-names2 .result) refl (c .put-names2 .ensures .0) (c .put-names2 .ensures .1), omega (arith, c .put-names2 .ensures .1, k .1))
+    let e = c .put-names2 .ensures .1 .1 (omega (arith, room (else3 c), k .0 .long, k .1)) in
+    (putting-next (k .0) sellerNames (rest3 s) (c .put-names2 .last .0) (c .put-names2 .result) refl (e .0) (e .1), omega (arith, e .1, k .1))
 
 stage4 : (c : tie.After-put-sellers) → Stage (else4 c) (c .put-sellers .last .0) (c .put-sellers .result) [] 46447
 stage4 c =
     let s = start (else4 c) in
     let k = stage3 (c .before .before .before .before) in
     (putting-next (k .0) (rest3 s) [] (c .put-sellers .last .0) (c .put-sellers .result) (sym (append-nil (rest3 s))) (c .put-sellers .ensures .buffer) (c .put-sellers .ensures .next), omega (arith, c .put-sellers .ensures .few, k .1))
-
-has-room-requires : tie.Need-has-room-requires
-has-room-requires c κs = search needs
 
 returns : tie.Need-returns
 returns c =
@@ -88,32 +87,15 @@ returns c =
     let n = within-none verdictRoom (s .args .out .now) (s .args .at) (page s) e in
     (n .0, (n .1, λ h. absurd (omega (arith, leb-false (s .args .at + verdictRoom) (length (s .args .out .now)) e))))
 
-slice-aggregate-put-names : tie.Need-slice-aggregate-put-names
-slice-aggregate-put-names c = search needs
-
-put-names-requires : tie.Need-put-names-requires
-put-names-requires c κs = omega (arith, room (c .before .before))
-
 put-verdicts-requires : tie.Need-put-verdicts-requires
 put-verdicts-requires c κs =
     let k = stage1 (c .before .before .before) in
     omega (arith, room (else1 (c .before .before .before)), k .0 .long, k .1)
 
-slice-aggregate-put-names-2 : tie.Need-slice-aggregate-put-names-2
-slice-aggregate-put-names-2 c = search needs
-
-put-names-requires-2 : tie.Need-put-names-requires-2
-put-names-requires-2 c κs =
-    let k = stage2 (c .before .before .before .before) in
-    omega (arith, room (else2 (c .before .before .before .before)), k .0 .long, k .1)
-
 put-sellers-requires : tie.Need-put-sellers-requires
 put-sellers-requires c κs =
     let k = stage3 (c .before .before .before) in
     omega (arith, room (else3 (c .before .before .before)), k .0 .long, k .1)
-
-same-length : tie.Need-same-length
-same-length c = search needs
 
 returns-2 : tie.Need-returns-2
 returns-2 c =
@@ -127,15 +109,5 @@ returns-2 c =
 
 pub print-verdicts-spec : {M : Type 1} → statement M
 print-verdicts-spec =
-    tie.close
-    (tie.spec
-    has-room-requires
-    returns
-    slice-aggregate-put-names
-    put-names-requires
-    put-verdicts-requires
-    slice-aggregate-put-names-2
-    put-names-requires-2
-    put-sellers-requires
-    same-length
-    returns-2)
+    tie.close (tie.spec (λ c κs. search needs) returns (λ c. search needs) (λ c κs. search needs) put-verdicts-requires (λ c. search needs)
+    (λ c κs. search needs) put-sellers-requires (λ c. search needs) returns-2)

@@ -17,18 +17,6 @@ text s = lineText (take (s .args .k) (s .args .row))
 few : (s : tie.Start) → length (text s) ≤ 21 * s .args .k
 few s = omega (arith, line-few (take (s .args .k) (s .args .row)), length-take (s .args .k) (s .args .row))
 
-print-line-requires : tie.Need-print-line-requires
-print-line-requires c κs = search needs
-
-enum-known-next : tie.Need-enum-known-next
-enum-known-next c = search needs
-
-enum-told : tie.Need-enum-told
-enum-told c = search needs
-
-same-length : tie.Need-same-length
-same-length c = search needs
-
 returns : tie.Need-returns
 returns c =
     let p = c .before .before .before .before .before in
@@ -37,9 +25,6 @@ returns c =
     let n = few s in
     let r = put-to (a .out .now) (a .at) (text s) (p .print-line .last .0) (p .print-line .result) (omega (arith, s .pre)) (p .print-line .ensures .0) (p .print-line .ensures .1) (c .before .next .given .0 .0) (c .before .next .given .1) in
     record { buffer = r .0; next = r .1; few = omega (arith, r .1) }
-
-same-length-2 : tie.Need-same-length-2
-same-length-2 c = search needs
 
 returns-2 : tie.Need-returns-2
 returns-2 c =
@@ -51,12 +36,4 @@ returns-2 c =
 
 pub put-line-spec : {M : Type 1} → statement M
 put-line-spec =
-    tie.close
-    (tie.spec
-    print-line-requires
-    enum-known-next
-    enum-told
-    same-length
-    returns
-    same-length-2
-    returns-2)
+    tie.close (tie.spec (λ c κs. search needs) (λ c. search needs) (λ c. search needs) (λ c. search needs) returns (λ c. search needs) returns-2)

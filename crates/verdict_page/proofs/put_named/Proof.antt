@@ -26,27 +26,6 @@ Inv-loop out₀ at i c verdicts from finding names left₀ q₀ n₀ out left q 
 abbrev μ-loop : tie.MeasureT-loop
 μ-loop out₀ at i c verdicts from finding names left₀ q₀ n₀ out left q n = 16 - n
 
-mul-from : tie.Need-mul-from Inv-loop μ-loop
-mul-from c = search needs
-
-mul-finding : tie.Need-mul-finding Inv-loop μ-loop
-mul-finding c = search needs
-
-element-copy-out-finding : tie.Need-element-copy-out-finding Inv-loop μ-loop
-element-copy-out-finding c = search needs
-
-add-names : tie.Need-add-names Inv-loop μ-loop
-add-names c = search needs
-
-mul-names : tie.Need-mul-names Inv-loop μ-loop
-mul-names c = search needs
-
-element-copy-out-names : tie.Need-element-copy-out-names Inv-loop μ-loop
-element-copy-out-names c = search needs
-
-named-by-requires : tie.Need-named-by-requires Inv-loop μ-loop
-named-by-requires c κs = search needs
-
 loop-holds : tie.Need-loop-holds Inv-loop μ-loop
 loop-holds c =
     let n = c .before in
@@ -58,9 +37,6 @@ loop-holds c =
     let named = simp (came (cellAt cells from) (k .finding .given), came (cellAt cells (from + 3)) (n .names .given)) at (c .named-by .ensures) in
     let e = sellers-left cells (a .c) (c .named-by .result) named in
     (subst (λ (x : List ℕ). Putting (a .out .now) (a .at) text (a .out .now) (a .at) x) (ap (groupText (printable (a .i)) (a .c)) e) (putting-start (a .out .now) (a .at) text), omega arith, omega arith)
-
-next-seller-requires : tie.Need-next-seller-requires Inv-loop μ-loop
-next-seller-requires c κs = search needs
 
 -- where the function began
 abbrev start : tie.In-loop Inv-loop μ-loop → tie.Start Inv-loop μ-loop
@@ -87,9 +63,6 @@ put-seller-requires c κs =
 -- the test that a seller is left
 abbrev test : tie.After-slice-known2 Inv-loop μ-loop → tie.Else1 Inv-loop μ-loop
 test c = c .before .before .before .before
-
-cast-left : tie.Need-cast-left Inv-loop μ-loop
-cast-left c = search needs
 
 shl-left : tie.Need-shl-left Inv-loop μ-loop
 shl-left c = omega (arith, test c .if1 .left)
@@ -138,27 +111,6 @@ returns-2 c =
 
 pub put-named-spec : {M : Type 1} → statement M
 put-named-spec =
-    tie.close
-    (tie.spec
-    Inv-loop
-    μ-loop
-    mul-from
-    mul-finding
-    element-copy-out-finding
-    add-names
-    mul-names
-    element-copy-out-names
-    named-by-requires
-    loop-holds
-    next-seller-requires
-    same-length
-    returns
-    put-seller-requires
-    cast-left
-    shl-left
-    sub-left
-    add-n
-    loop-less
-    loop-again
-    same-length-2
-    returns-2)
+    tie.close (tie.spec Inv-loop μ-loop (λ c. search needs) (λ c. search needs) (λ c. search needs) (λ c. search needs) (λ c. search needs)
+    (λ c. search needs) (λ c κs. search needs) loop-holds (λ c κs. search needs) same-length returns put-seller-requires (λ c. search needs) shl-left
+    sub-left add-n loop-less loop-again same-length-2 returns-2)

@@ -13,27 +13,6 @@ use borrow.Author.Needs.{needs}
 use Rattle.verdict_page.proofs.put_seller.Statement.{statement}
 use Rattle.verdict_page.proofs.put_seller.Tie as tie
 
-printable-requires : tie.Need-printable-requires
-printable-requires c κs = search needs
-
-printable-requires-2 : tie.Need-printable-requires-2
-printable-requires-2 c κs = search needs
-
-printable-requires-3 : tie.Need-printable-requires-3
-printable-requires-3 c κs = search needs
-
-amount-of-requires : tie.Need-amount-of-requires
-amount-of-requires c κs = search needs
-
-printable-requires-4 : tie.Need-printable-requires-4
-printable-requires-4 c κs = search needs
-
-put-line-requires : tie.Need-put-line-requires
-put-line-requires c κs = search needs
-
-same-length : tie.Need-same-length
-same-length c = search needs
-
 returns : tie.Need-returns
 returns c =
     let f = c .before .before in
@@ -53,13 +32,5 @@ returns c =
 
 pub put-seller-spec : {M : Type 1} → statement M
 put-seller-spec =
-    tie.close
-    (tie.spec
-    printable-requires
-    printable-requires-2
-    printable-requires-3
-    amount-of-requires
-    printable-requires-4
-    put-line-requires
-    same-length
-    returns)
+    tie.close (tie.spec (λ c κs. search needs) (λ c κs. search needs) (λ c κs. search needs) (λ c κs. search needs) (λ c κs. search needs)
+    (λ c κs. search needs) (λ c. search needs) returns)

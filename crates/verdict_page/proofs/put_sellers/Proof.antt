@@ -16,9 +16,6 @@ abbrev μ-loop : tie.MeasureT-loop
 few : (c : tie.In-loop Inv-loop μ-loop) → c .before .loop .c < 32
 few c = omega (arith, c .loop-test .taken, c .before .before .at-most .ensures)
 
-at-most-requires : tie.Need-at-most-requires Inv-loop μ-loop
-at-most-requires c κs = search needs
-
 loop-holds : tie.Need-loop-holds Inv-loop μ-loop
 loop-holds c = let a = c .before .before .args in table-start sellerRows 1344 (a .out .now) (a .at) (a .i) (a .constraints) (a .verdicts .now)
 
@@ -57,15 +54,4 @@ returns c =
 
 pub put-sellers-spec : {M : Type 1} → statement M
 put-sellers-spec =
-    tie.close
-    (tie.spec
-    Inv-loop
-    μ-loop
-    at-most-requires
-    loop-holds
-    put-named-requires
-    add-c
-    loop-less
-    loop-again
-    same-length
-    returns)
+    tie.close (tie.spec Inv-loop μ-loop (λ c κs. search needs) loop-holds put-named-requires add-c loop-less loop-again same-length returns)

@@ -16,54 +16,6 @@ use borrow.Author.Needs.{needs}
 use Rattle.verdict_page.proofs.put_verdict.Statement.{statement}
 use Rattle.verdict_page.proofs.put_verdict.Tie as tie
 
-mul-from : tie.Need-mul-from
-mul-from c = search needs
-
-mul-finding : tie.Need-mul-finding
-mul-finding c = search needs
-
-element-copy-out-finding : tie.Need-element-copy-out-finding
-element-copy-out-finding c = search needs
-
-add-demand : tie.Need-add-demand
-add-demand c = search needs
-
-mul-demand : tie.Need-mul-demand
-mul-demand c = search needs
-
-element-copy-out-demand : tie.Need-element-copy-out-demand
-element-copy-out-demand c = search needs
-
-add-left : tie.Need-add-left
-add-left c = search needs
-
-mul-left : tie.Need-mul-left
-mul-left c = search needs
-
-element-copy-out-left : tie.Need-element-copy-out-left
-element-copy-out-left c = search needs
-
-printable-requires : tie.Need-printable-requires
-printable-requires c κs = search needs
-
-printable-requires-2 : tie.Need-printable-requires-2
-printable-requires-2 c κs = search needs
-
-finding-of-requires : tie.Need-finding-of-requires
-finding-of-requires c κs = search needs
-
-shown-cell-requires : tie.Need-shown-cell-requires
-shown-cell-requires c κs = search needs
-
-shown-cell-requires-2 : tie.Need-shown-cell-requires-2
-shown-cell-requires-2 c κs = search needs
-
-put-line-requires : tie.Need-put-line-requires
-put-line-requires c κs = search needs
-
-same-length : tie.Need-same-length
-same-length c = search needs
-
 returns : tie.Need-returns
 returns c =
     let f = c .before .before in
@@ -92,22 +44,6 @@ returns c =
 
 pub put-verdict-spec : {M : Type 1} → statement M
 put-verdict-spec =
-    tie.close
-    (tie.spec
-    mul-from
-    mul-finding
-    element-copy-out-finding
-    add-demand
-    mul-demand
-    element-copy-out-demand
-    add-left
-    mul-left
-    element-copy-out-left
-    printable-requires
-    printable-requires-2
-    finding-of-requires
-    shown-cell-requires
-    shown-cell-requires-2
-    put-line-requires
-    same-length
-    returns)
+    tie.close (tie.spec (λ c. search needs) (λ c. search needs) (λ c. search needs) (λ c. search needs) (λ c. search needs) (λ c. search needs)
+    (λ c. search needs) (λ c. search needs) (λ c. search needs) (λ c κs. search needs) (λ c κs. search needs) (λ c κs. search needs)
+    (λ c κs. search needs) (λ c κs. search needs) (λ c κs. search needs) (λ c. search needs) returns)

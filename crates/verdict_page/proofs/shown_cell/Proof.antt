@@ -17,16 +17,10 @@ use Rattle.verdict_page.proofs.shown_cell.Tie as tie
 by : (s : tie.Start) (z : ℤ) → z ≡ s .args .finding → pos (shownWhole (findingBy z) (natOf (s .args .x))) ≡ pos (shownWhole (findingBy (s .args .finding)) (natOf (s .args .x)))
 by s z e = ap (λ (f : ℤ). pos (shownWhole (findingBy f) (natOf (s .args .x)))) e
 
-max-requires : tie.Need-max-requires
-max-requires c κs = search needs
-
 returns : tie.Need-returns
 returns c =
     let s = c .before .before in
     came (c .max .result) (c .max .ok) ∙ (simp (came (s .args .x) (s .fits .x .sfits)) at (c .max .ensures)) ∙ at-least-zero (s .args .x) ∙ by s (pos 0) (sym (bits-same (s .args .finding) (pos 0) (s .fits .finding) (pos-fits 0 tt) (c .before .if1 .taken)))
-
-max-requires-2 : tie.Need-max-requires-2
-max-requires-2 c κs = search needs
 
 returns-2 : tie.Need-returns-2
 returns-2 c =
@@ -39,4 +33,5 @@ returns-3 c =
     ap (λ (f : Finding). pos (shownWhole f (natOf (s .args .x)))) (sym (not-binding (s .args .finding) (λ e. c .before .if1 .left (ap (ofZ w64) e)) (λ e. c .if2 .left (ap (ofZ w64) e))))
 
 pub shown-cell-spec : {M : Type 1} → statement M
-shown-cell-spec = tie.close (tie.spec max-requires returns max-requires-2 returns-2 returns-3)
+shown-cell-spec =
+    tie.close (tie.spec (λ c κs. search needs) returns (λ c κs. search needs) returns-2 returns-3)

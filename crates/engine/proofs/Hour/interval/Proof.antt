@@ -1,28 +1,28 @@
 -- `engine::Hour::interval` meets its contract. Assumes nothing.
-use mathlib.Core.Path.{ap, ap₂, _∙_}
-use Prim.Native.Nat.{ℕ}
+use mathlib.Core.Path.{_≡_, ap, _∙_}
+use Prim.Native.Nat.{_≤_}
+use native.Mathlib.Omega.{arith}
 use borrow.Author.Needs.{needs}
-use Rattle.rules_hour.specs.Hours.{standingAt, hourAfter}
-use Rattle.rules_hour.specs.declared.Standing.{Standing}
-use Rattle.rules_pass.specs.Passes.{begunBy, intervalAfter}
-use Rattle.rules_pass.specs.declared.Quarter.{Quarter}
-use Rattle.engine.specs.Hours.{asHour}
+use lib.ListN.{length, length-map}
+use Rattle.rules_hour.specs.Hours.{callVerdicts}
+use Rattle.rules_state.specs.Layout.{stateRoom}
+use Rattle.rules_state.specs.States.{hourIn}
+use Rattle.hour_cells.specs.Calls.{refusalBy}
+use Rattle.engine.proofs.HourLaws.{after-interval}
 use Rattle.engine.proofs.Hour.interval.Statement.{statement}
 use Rattle.engine.proofs.Hour.interval.Tie as tie
 
-take-interval-requires : tie.Need-take-interval-requires
-take-interval-requires c κs = search needs
-
-begun-requires : tie.Need-begun-requires
-begun-requires c κs = search needs
+-- what the type says: an hour has 3,411 cells
+room : (c : tie.Start) → length (c .args .self .cells) ≡ stateRoom
+room c = simp length-map at (c .good .0 .1 .1 .0 .1 .0 .1)
 
 returns : tie.Need-returns
-unfolding intervalAfter hourAfter
+unfolding refusalBy callVerdicts
 returns c =
-    let t = c .before .before .before .take-interval in
-    let h = c .before .before .before .before .before .before .before .before .args .self in
-    let quarter = c .begun .ensures ∙ ap (λ (n : ℕ). begunBy n (h .quarter)) (t .ensures .0) in
-    (t .ensures .0, (ap₂ (λ (s : Standing) (k : Quarter). record { hour = standingAt (asHour h) s; quarter = k }) (t .ensures .1 .0) quarter, t .ensures .1 .1))
+    let a = c .before .args in
+    let t = c .called .ensures in
+    let long : stateRoom ≤ length (a .self .cells) = omega (arith, room (c .before)) in
+    (t .0, (ap hourIn (t .1 .0) ∙ after-interval (a .self .cells) (a .v) long, t .1 .1))
 
 pub interval-spec : {M : Type 1} → statement M
-interval-spec = tie.close (tie.spec take-interval-requires begun-requires returns)
+interval-spec = tie.close (tie.spec (λ c κs. search needs) returns)

@@ -1,43 +1,71 @@
 -- `engine::Hour::open` meets its contract. Assumes nothing.
-use Prim.Native.Nat.{ℕ, zero, suc}
-use mathlib.Core.Path.{_≡_, refl, ap}
+use mathlib.Core.Path.{_≡_, sym, ap, _∙_}
 use mathlib.Core.List.{List}
+use Prim.Native.Nat.{_<_}
 use borrow.Author.Needs.{needs}
-use Rattle.rules_path.specs.declared.Market.{Market}
-use Rattle.rules_opening.specs.declared.Row.{Row}
-use Rattle.rules_opening.specs.Openings.{openingRefusal, marketOf, rowsOf, marketUnless, rowsUnless}
+use lib.IntN.{ℤ, pos}
+use lib.ListN.{length, length-map, replicate}
+use Rattle.rules_number.proofs.Kit.{came}
+use Rattle.rules_curve.specs.Refusals.{outcomeNumber}
+use Rattle.rules_curve.proofs.RefusalLaws.{refused-number}
+use Rattle.rules_opening.specs.Openings.{openingRefusal}
 use Rattle.rules_opening.specs.declared.Opening.{Opening}
-use Rattle.rules_hour.specs.Hours.{Hour, freshStanding, blankHour}
-use Rattle.rules_hour.specs.Opened.{freshHour, hourUnless, openedHour}
-use Rattle.rules_pass.specs.Passes.{freshQuarter, openedRealTime}
+use Rattle.rules_pass.specs.Passes.{openedRealTime}
+use Rattle.rules_state.specs.Layout.{mostResources, mostPortfolios, stateRoom}
+use Rattle.rules_state.specs.OpenedInto.{openedInto}
+use Rattle.rules_state.specs.Openings.{openingIn}
+use Rattle.rules_state.specs.States.{hourIn}
+use Rattle.engine.proofs.HourLaws.{refused, read-number, opened}
 use Rattle.engine.proofs.Hour.open.Statement.{statement}
 use Rattle.engine.proofs.Hour.open.Tie as tie
 
--- the hour of what the checks hand back
-entered : (o : Opening) (m : Market) (rows : List Row) → m ≡ marketUnless (openingRefusal o) (marketOf o) → rows ≡ rowsUnless (openingRefusal o) (rowsOf o)
-    → _≡_ {A = Hour} (record { market = m; rows = rows; standing = freshStanding }) (openedHour o)
-unfolding openedHour freshHour blankHour
-entered o m rows e f = rw (e, f) (go (openingRefusal o))
-  where
-    go : (n : ℕ) → _≡_ {A = Hour} (record { market = marketUnless n (marketOf o); rows = rowsUnless n (rowsOf o); standing = freshStanding }) (hourUnless n (freshHour o))
-    go zero = refl
-    go (suc n) = refl
+abbrev put : tie.After-open-into → tie.After-put-blocks
+put t = t .before .before .before .before .before .before
 
-entered-requires : tie.Need-entered-requires
-entered-requires c κs = search needs
+abbrev asked : tie.After-put-blocks → Opening
+asked b = b .before .before .before .before .args .o
 
-fresh-requires : tie.Need-fresh-requires
-fresh-requires c κs = search needs
+abbrev blocks : tie.After-put-blocks → List ℤ
+blocks b = b .put-blocks .last .0
 
-fresh-quarter-requires : tie.Need-fresh-quarter-requires
-fresh-quarter-requires c κs = search needs
+abbrev cells : tie.After-open-into → List ℤ
+cells t = t .open-into .last .1 .1 .1 .1 .1 .0
+
+abbrev known : tie.After-open-into → tie.After-struct-told
+known t = t .before .before .before .before
+
+abbrev start : tie.After-open-into → tie.Start
+start t = put t .before .before .before .before
+
+sellers : (t : tie.After-open-into) → length (asked (put t) .sellers) ≡ mostPortfolios
+sellers t = simp length-map at (start t .good .0 .1 .1 .1 .1 .0 .1 .0 .1)
+
+many : (t : tie.After-open-into) → length (asked (put t) .list) ≡ mostResources
+many t = simp length-map at (start t .good .0 .1 .1 .1 .1 .1 .1 .0 .1 .0 .1)
+
+told : (t : tie.After-open-into) → let b = put t in let o = asked b in let i = openingIn (o .month) (o .portfolios) (o .sellers) (o .resources) (blocks b) in
+    (outcomeNumber (t .open-into .result) ≡ openingRefusal i) × (cells t ≡ openedInto i (replicate stateRoom (pos 0)))
+told t = rw (came (asked (put t) .month) (known t .struct-told .given .0 .1)) at (t .open-into .ensures)
+
+number : (t : tie.After-open-into) → outcomeNumber (t .open-into .result) ≡ openingRefusal (asked (put t))
+number t = let b = put t in told t .0 ∙ read-number (asked b) (sellers t) (many t) (b .put-blocks .ensures .0) (blocks b) (b .put-blocks .ensures .1)
+
+hour : (t : tie.After-open-into) → openingRefusal (asked (put t)) ≡ 0 → hourIn (cells t) ≡ openedRealTime (asked (put t))
+hour t z = let b = put t in opened (asked b) (sellers t) (many t) (b .put-blocks .ensures .0) (blocks b) (b .put-blocks .ensures .1) z (cells t) (told t .1)
 
 returns : tie.Need-returns
-unfolding openedRealTime
 returns c =
-    let e = c .before .before .before .before .entered in
-    let h = entered (c .before .before .before .before .before .args .o) (e .result .market) (e .result .rows) (e .ensures .1 .0) (e .ensures .1 .1) in
-    (e .ensures .0, rw (c .before .fresh .ensures, c .fresh-quarter .ensures) (ap (λ (x : Hour). record { hour = x; quarter = freshQuarter }) h))
+    let t = c .before .before .before .before in
+    let k = c .before .enum-told2 .given in
+    let some : 0 < openingRefusal (asked (put t)) = rw (← number t, k .1) (refused-number (k .0 .0)) in
+    (number t, c .blank .ensures ∙ refused (asked (put t)) some)
+
+returns-2 : tie.Need-returns-2
+returns-2 c =
+    let t = c .before .before .before in
+    (number t, hour t (sym (number t) ∙ ap outcomeNumber (c .enum-told .given .1)))
 
 pub open-spec : {M : Type 1} → statement M
-open-spec = tie.close (tie.spec entered-requires fresh-requires fresh-quarter-requires returns)
+open-spec =
+    tie.close (tie.spec (λ c. search needs) (λ c κs. search needs) (λ c. search needs) (λ c. search needs) (λ c. search needs) (λ c κs. search needs)
+    (λ c. search needs) (λ c. search needs) (λ c κs. search needs) returns returns-2)

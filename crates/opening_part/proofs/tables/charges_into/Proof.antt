@@ -35,9 +35,6 @@ loop-holds c =
     let a = c .before .args in
     (pricing-start (a .from) (a .m) (a .n) (a .cells .now) (drop (a .at) (a .s .now)), used-none (a .s .now) (a .n) (a .at))
 
-id-row-at-requires : tie.Need-id-row-at-requires Inv-loop μ-loop
-id-row-at-requires c κs = search needs
-
 abbrev loops : tie.After-id-row-at Inv-loop μ-loop → tie.At-loop Inv-loop μ-loop
 loops c = c .before .before
 
@@ -78,9 +75,6 @@ returns c =
           (not-held (l .next + length (line (left r))) (ifSuits (hasId (l .r)) (row 8 (line (left r)))) (r .id-row-at .result) (answers r) (not-true (r .id-row-at .result .ok) (c .if1 .taken))),
       no-next (l .line) (a .at) (0 - a .n) (lines (drop (a .at) (a .s .now))),
     )
-
-at-most-requires : tie.Need-at-most-requires Inv-loop μ-loop
-at-most-requires c κs = search needs
 
 mul-base : tie.Need-mul-base Inv-loop μ-loop
 mul-base c = omega (arith, c .at-most .ensures)
@@ -145,21 +139,5 @@ returns-2 c =
 
 pub charges-into-spec : {M : Type 1} → statement M
 charges-into-spec =
-    tie.close
-    (tie.spec
-    Inv-loop
-    μ-loop
-    loop-holds
-    id-row-at-requires
-    add-line
-    same-length
-    returns
-    at-most-requires
-    mul-base
-    add-base
-    put-charges-requires
-    add-r
-    loop-less
-    loop-again
-    same-length-2
-    returns-2)
+    tie.close (tie.spec Inv-loop μ-loop loop-holds (λ c κs. search needs) add-line same-length returns (λ c κs. search needs) mul-base add-base
+    put-charges-requires add-r loop-less loop-again same-length-2 returns-2)

@@ -33,9 +33,6 @@ loop-holds c =
     let a = c .before .args in
     (grouping-start (a .from) (a .m) (a .n) (a .cells .now) (lines (drop (a .at) (a .s .now))), used-none (a .s .now) (a .n) (a .at))
 
-at-most-requires : tie.Need-at-most-requires Inv-loop μ-loop
-at-most-requires c κs = search needs
-
 mul-base : tie.Need-mul-base Inv-loop μ-loop
 mul-base c = omega (arith, c .at-most .ensures)
 
@@ -73,9 +70,6 @@ counted c =
 
 cast-put : tie.Need-cast-put Inv-loop μ-loop
 cast-put c = record { sfits = counted (c .before .before .before) }
-
-put-requires : tie.Need-put-requires Inv-loop μ-loop
-put-requires c κs = search needs
 
 abbrev read : tie.After-struct-known2 Inv-loop μ-loop → tie.After-pairs-into Inv-loop μ-loop
 read c = c .before .before .before .before .before .before
@@ -140,21 +134,5 @@ returns c =
 
 pub groups-into-spec : {M : Type 1} → statement M
 groups-into-spec =
-    tie.close
-    (tie.spec
-    Inv-loop
-    μ-loop
-    loop-holds
-    at-most-requires
-    mul-base
-    add-base
-    add-pairs-into
-    pairs-into-requires
-    cast-put
-    put-requires
-    add-line
-    add-r
-    loop-less
-    loop-again
-    same-length
-    returns)
+    tie.close (tie.spec Inv-loop μ-loop loop-holds (λ c κs. search needs) mul-base add-base add-pairs-into pairs-into-requires cast-put
+    (λ c κs. search needs) add-line add-r loop-less loop-again same-length returns)

@@ -28,9 +28,6 @@ abbrev μ-loop : tie.MeasureT-loop
 loop-holds : tie.Need-loop-holds Inv-loop μ-loop
 loop-holds c = let a = c .before .args in pairing-start (a .s .now) (a .at) (a .r) (a .cells .now) (a .base)
 
-id-three-at-requires : tie.Need-id-three-at-requires Inv-loop μ-loop
-id-three-at-requires c κs = search needs
-
 same-length : tie.Need-same-length Inv-loop μ-loop
 same-length c = c .before .before .before .loop .inv .long
 
@@ -53,9 +50,6 @@ returns c =
     let d = pairing-end (a .s .now) (a .at) (a .r) (a .cells .now) (a .base) (l .loop .cells) (l .loop .count) (l .loop .next) (l .loop .inv)
     (not-held-three _ _ (q .id-three-at .result) (answers q) (not-true (q .id-three-at .result .ok) (c .if1 .taken))) in
     (d .counts, (d .stores, used-count (l .loop .inv .used)))
-
-put-pair-requires : tie.Need-put-pair-requires Inv-loop μ-loop
-put-pair-requires c κs = search needs
 
 -- ---- one line more
 abbrev asked : tie.After-put-pair Inv-loop μ-loop → tie.After-id-three-at Inv-loop μ-loop
@@ -97,15 +91,4 @@ loop-again c = turn (c .before) .again
 
 pub pairs-into-spec : {M : Type 1} → statement M
 pairs-into-spec =
-    tie.close
-    (tie.spec
-    Inv-loop
-    μ-loop
-    loop-holds
-    id-three-at-requires
-    same-length
-    returns
-    put-pair-requires
-    add-count
-    loop-less
-    loop-again)
+    tie.close (tie.spec Inv-loop μ-loop loop-holds (λ c κs. search needs) same-length returns (λ c κs. search needs) add-count loop-less loop-again)

@@ -11,30 +11,6 @@ use Rattle.rules_number.proofs.Kit.{came}
 use Rattle.opening_part.proofs.tables.put_pair.Statement.{statement}
 use Rattle.opening_part.proofs.tables.put_pair.Tie as tie
 
-mul-put : tie.Need-mul-put
-mul-put c = search needs
-
-add-put : tie.Need-add-put
-add-put c = search needs
-
-put-requires : tie.Need-put-requires
-put-requires c κs = search needs
-
-mul-put-2 : tie.Need-mul-put-2
-mul-put-2 c = search needs
-
-add-put-2 : tie.Need-add-put-2
-add-put-2 c = search needs
-
-add-put-3 : tie.Need-add-put-3
-add-put-3 c = search needs
-
-put-requires-2 : tie.Need-put-requires-2
-put-requires-2 c κs = search needs
-
-same-length : tie.Need-same-length
-same-length c = search needs
-
 returns : tie.Need-returns
 returns c =
     let q = c .before in
@@ -53,15 +29,5 @@ returns-2 c =
 
 pub put-pair-spec : {M : Type 1} → statement M
 put-pair-spec =
-    tie.close
-    (tie.spec
-    mul-put
-    add-put
-    put-requires
-    mul-put-2
-    add-put-2
-    add-put-3
-    put-requires-2
-    same-length
-    returns
-    returns-2)
+    tie.close (tie.spec (λ c. search needs) (λ c. search needs) (λ c κs. search needs) (λ c. search needs) (λ c. search needs) (λ c. search needs)
+    (λ c κs. search needs) (λ c. search needs) returns returns-2)

@@ -7,19 +7,10 @@ use Rattle.path.proofs.JudgeLaws.{not-bound, offers-held, total-fits, j
 use Rattle.path.proofs.constraint.judge.Statement.{statement}
 use Rattle.path.proofs.constraint.judge.Tie as tie
 
-not-binding-requires : tie.Need-not-binding-requires
-not-binding-requires c κs = search needs
-
 returns : tie.Need-returns
 returns c =
     let s = c .before .before .args .shadow in
     c .not-binding .ensures ∙ not-bound _ (not-above s (rw (came s (c .before .before .fits .shadow .sfits)) at (c .before .if1 .taken)))
-
-tally-of-requires : tie.Need-tally-of-requires
-tally-of-requires c κs = search needs
-
-offers-of-requires : tie.Need-offers-of-requires
-offers-of-requires c κs = search needs
 
 top-of-requires : tie.Need-top-of-requires
 top-of-requires c κs =
@@ -35,9 +26,6 @@ sub-left c =
     total-fits (a .shadow) (a .factors .now) (a .dispatch .now) (a .available .now) (a .floor .now) (a .portfolio .now) (a .sellers .now) (a .resources) (a .c) (start .pre)
     _ _ (o .before .before .tally-of .ensures) (o .offers-of .ensures) _ (c .before .before .top-of .ensures)
 
-found-requires : tie.Need-found-requires
-found-requires c κs = search needs
-
 returns-2 : tie.Need-returns-2
 returns-2 c =
     let r = c .before .before .before .before in
@@ -50,13 +38,5 @@ returns-2 c =
 
 pub judge-spec : {M : Type 1} → statement M
 judge-spec =
-    tie.close
-    (tie.spec
-    not-binding-requires
-    returns
-    tally-of-requires
-    offers-of-requires
-    top-of-requires
-    sub-left
-    found-requires
+    tie.close (tie.spec (λ c κs. search needs) returns (λ c κs. search needs) (λ c κs. search needs) top-of-requires sub-left (λ c κs. search needs)
     returns-2)

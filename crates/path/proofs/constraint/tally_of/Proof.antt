@@ -185,12 +185,6 @@ mul-supply c = omega (arith, supply-size c)
 add-supply : tie.Need-add-supply Inv-loop μ-loop
 add-supply c = omega (arith, supply-size c, room-supply (turn c), few (turn c))
 
-mul-p : tie.Need-mul-p Inv-loop μ-loop
-mul-p c = omega arith
-
-element-copy-out-p : tie.Need-element-copy-out-p Inv-loop μ-loop
-element-copy-out-p c = omega arith
-
 sub-withholdable : tie.Need-sub-withholdable Inv-loop μ-loop
 sub-withholdable c =
     let k = c .before .before in
@@ -199,25 +193,10 @@ sub-withholdable c =
 mul-withholdable : tie.Need-mul-withholdable Inv-loop μ-loop
 mul-withholdable c = omega (arith, own-size (c .before .before))
 
-mul-withholdable-2 : tie.Need-mul-withholdable-2 Inv-loop μ-loop
-mul-withholdable-2 c = omega arith
-
-array-read-withholdable : tie.Need-array-read-withholdable Inv-loop μ-loop
-array-read-withholdable c = omega arith
-
 add-withholdable : tie.Need-add-withholdable Inv-loop μ-loop
 add-withholdable c =
     let k = c .before .before in
     omega (arith, own-size k, room-own (turn k) _ (c .if2 .taken), few (turn k))
-
-array-write-withholdable : tie.Need-array-write-withholdable Inv-loop μ-loop
-array-write-withholdable c = omega arith
-
-add-r : tie.Need-add-r Inv-loop μ-loop
-add-r c = omega arith
-
-loop-less : tie.Need-loop-less Inv-loop μ-loop
-loop-less c = omega arith
 
 loop-again : tie.Need-loop-again Inv-loop μ-loop
 loop-again c =
@@ -250,39 +229,8 @@ returns c =
 
 pub tally-of-spec : {M : Type 1} → statement M
 tally-of-spec =
-    tie.close
-    (tie.spec
-    Inv-loop
-    μ-loop
-    rows-in-requires
-    loop-holds
-    mul-effectiveness
-    add-effectiveness
-    mul-effectiveness-2
-    shared-slice-copy-out-effectiveness
-    effectiveness-requires
-    mul-most
-    element-copy-out-most
-    cast-most
-    mul-kept
-    element-copy-out-kept
-    cast-kept
-    mul-wanted
-    element-copy-out-wanted
-    cast-wanted
-    mul-demand
-    add-demand
-    mul-supply
-    add-supply
-    mul-p
-    element-copy-out-p
-    sub-withholdable
-    mul-withholdable
-    mul-withholdable-2
-    array-read-withholdable
-    add-withholdable
-    array-write-withholdable
-    add-r
-    loop-less
-    loop-again
+    tie.close (tie.spec Inv-loop μ-loop rows-in-requires loop-holds mul-effectiveness add-effectiveness mul-effectiveness-2
+    shared-slice-copy-out-effectiveness effectiveness-requires mul-most element-copy-out-most cast-most mul-kept element-copy-out-kept cast-kept
+    mul-wanted element-copy-out-wanted cast-wanted mul-demand add-demand mul-supply add-supply (λ c. omega arith) (λ c. omega arith) sub-withholdable
+    mul-withholdable (λ c. omega arith) (λ c. omega arith) add-withholdable (λ c. omega arith) (λ c. omega arith) (λ c. omega arith) loop-again
     returns)

@@ -39,12 +39,6 @@ loop-holds c = record { few = omega arith; sum = omega arith; bits = omega arith
 largest-of-requires : tie.Need-largest-of-requires Inv-loop μ-loop
 largest-of-requires c κs = tt
 
-mul-amount : tie.Need-mul-amount Inv-loop μ-loop
-mul-amount c = omega arith
-
-array-read-amount : tie.Need-array-read-amount Inv-loop μ-loop
-array-read-amount c = omega arith
-
 returns : tie.Need-returns Inv-loop μ-loop
 returns c =
     let l = c .before .before .before .loop in
@@ -56,12 +50,6 @@ add-total c =
     let x : 0 < at (l .w) (c .before .largest-of .result) = omega arith in
     omega (arith, l .inv .sum, total-taken (l .w) 16 _ (c .before .largest-of .ensures .0) (l .k) (c .before .before .loop-test .taken) x, total-bound 64000000000000 3 (c .before .before .before .before .args .offers) 16 (c .before .before .before .before .pre))
 
-cast-named : tie.Need-cast-named Inv-loop μ-loop
-cast-named c = omega arith
-
-shl-named : tie.Need-shl-named Inv-loop μ-loop
-shl-named c = omega arith
-
 add-named : tie.Need-add-named Inv-loop μ-loop
 add-named c =
     let l = c .before .before .before .loop in
@@ -69,24 +57,6 @@ add-named c =
     let x : 0 < at (l .w) p = omega arith in
     let b : 2 ^ p ≤ 2 ^ 15 = pow-mono {i = p} {j = 15} (omega arith) in
     omega (arith, l .inv .bits, mask-taken (l .w) 16 p (c .before .largest-of .ensures .0) (l .k) (c .before .before .loop-test .taken) x, mask-bound 3 (c .before .before .before .before .args .offers))
-
-mul-withheld : tie.Need-mul-withheld Inv-loop μ-loop
-mul-withheld c = omega arith
-
-array-write-withheld : tie.Need-array-write-withheld Inv-loop μ-loop
-array-write-withheld c = omega arith
-
-mul-w : tie.Need-mul-w Inv-loop μ-loop
-mul-w c = omega arith
-
-array-write-w : tie.Need-array-write-w Inv-loop μ-loop
-array-write-w c = omega arith
-
-sub-k : tie.Need-sub-k Inv-loop μ-loop
-sub-k c = omega arith
-
-loop-less : tie.Need-loop-less Inv-loop μ-loop
-loop-less c = omega arith
 
 loop-again : tie.Need-loop-again Inv-loop μ-loop
 loop-again c =
@@ -112,24 +82,6 @@ returns-2 c =
 
 pub top-of-spec : {M : Type 1} → statement M
 top-of-spec =
-    tie.close
-    (tie.spec
-    Inv-loop
-    μ-loop
-    loop-holds
-    largest-of-requires
-    mul-amount
-    array-read-amount
-    returns
-    add-total
-    cast-named
-    shl-named
-    add-named
-    mul-withheld
-    array-write-withheld
-    mul-w
-    array-write-w
-    sub-k
-    loop-less
-    loop-again
-    returns-2)
+    tie.close (tie.spec Inv-loop μ-loop loop-holds largest-of-requires (λ c. omega arith) (λ c. omega arith) returns add-total (λ c. omega arith)
+    (λ c. omega arith) add-named (λ c. omega arith) (λ c. omega arith) (λ c. omega arith) (λ c. omega arith) (λ c. omega arith) (λ c. omega arith)
+    loop-again returns-2)

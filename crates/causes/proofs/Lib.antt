@@ -1,2 +1,0 @@
--- The causes that are put are those of the rules.
-pub mod CauseLaws

@@ -1,0 +1,2 @@
+-- Laws of the loops that copy numbers.
+pub mod CopyLaws

@@ -1,0 +1,60 @@
+-- `engine::Hour::called` meets its contract. Assumes nothing.
+use mathlib.Core.Path.{_≡_, sym, ap, _∙_}
+use mathlib.Core.List.{List}
+use borrow.Author.Needs.{needs}
+use mir.Syntax.{w64}
+use mir.Val.{toZ, ofZ}
+use lib.IntN.{ℤ}
+use lib.ListN.{length}
+use lib.Seq.{sets}
+use Rattle.rules_number.proofs.Kit.{came}
+use Rattle.rules_curve.specs.Refusals.{outcomeNumber}
+use Rattle.rules_state.specs.States.{marketIn}
+use Rattle.rules_state.specs.Verdicts.{judgedCells}
+use Rattle.rules_state.proofs.TakeLaws.{accepted-length}
+use Rattle.hour_cells.specs.Calls.{refusalBy}
+use Rattle.hour_cells.proofs.CallLaws.{Called, sound}
+use Rattle.engine.proofs.VerdictsBack.{read-back}
+use Rattle.engine.proofs.Hour.called.Statement.{statement}
+use Rattle.engine.proofs.Hour.called.Tie as tie
+
+-- where the call starts, the verdicts' cells before it, and after it
+abbrev lent : tie.After-call-into → tie.After-none-found
+lent t = t .before .before .before .before .before .before .before .before .before .before .before .before
+
+abbrev start : tie.After-call-into → tie.Start
+start t = lent t .before .before
+
+abbrev blank : tie.After-call-into → List ℤ
+blank t = lent t .none-found .result
+
+abbrev found : tie.After-call-into → List ℤ
+found t = t .call-into .last .1 .1 .1 .1 .1 .1 .1 .1 .1 .1 .1 .0
+
+held : (t : tie.After-call-into) → toZ w64 (ofZ w64 (start t .args .t3 .parameter)) ≡ start t .args .t3 .parameter
+held t = came (start t .args .t3 .parameter) (t .before .before .before .before .before .before .before .before .before .before .before .struct-told .given .1 .1 .1 .1 .1 .1 .1 .1 .0 .1)
+
+made : (t : tie.After-call-into) → let a = start t .args in Called (a .pass) (a .self .cells) (blank t) (a .t3) (outcomeNumber (t .call-into .result)) (t .call-into .last .0) (found t)
+made t = rw (held t) at (t .call-into .ensures)
+
+blank-room : (c : tie.After-none-found) → length (c .none-found .result) ≡ 640
+blank-room c = search needs
+
+slice-aggregate-verdicts-in : tie.Need-slice-aggregate-verdicts-in
+slice-aggregate-verdicts-in c =
+    let t = c .before .before in
+    let a = start t .args in
+    sym (ap length (made t .1 .1) ∙ accepted-length (refusalBy (a .pass) (a .self .cells) (a .t3)) (blank t) 0 (judgedCells (marketIn (a .self .cells)) (a .t3)) ∙ blank-room (lent t))
+
+returns : tie.Need-returns
+returns c =
+    let t = c .before .before .before in
+    let a = start t .args in
+    let l = a .self .cells in
+    let m = made t in
+    let n = refusalBy (a .pass) l (a .t3) in
+    (m .0, (m .1 .0, c .verdicts-in .ensures ∙ read-back (marketIn l) (a .t3) n (sound (a .pass) l (a .t3)) (blank t) (found t) (lent t .none-found .ensures) (m .1 .1)))
+
+pub called-spec : {M : Type 1} → statement M
+called-spec =
+    tie.close (tie.spec (λ c κs. search needs) (λ c. search needs) (λ c κs. search needs) slice-aggregate-verdicts-in (λ c κs. search needs) returns)

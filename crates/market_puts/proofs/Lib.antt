@@ -1,2 +1,0 @@
--- Laws of curves in cells.
-pub mod CurveLaws

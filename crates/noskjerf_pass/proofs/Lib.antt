@@ -1,2 +1,0 @@
--- Laws of what an accepted pass leaves.
-pub mod PassLaws
