@@ -22,9 +22,9 @@ use Rattle.rules_state.specs.Fits.{Each}
 use Rattle.rules_state.specs.Layout.{mostResources, mostPortfolios, stateRoom, verdictRoom}
 use Rattle.rules_state.specs.Openings.{openingIn}
 use Rattle.rules_state.specs.OpenedInto.{openedInto}
-use Rattle.rules_state.specs.States.{floorsIn, standingIn, quarterIn, wholesIn, marketIn, curveInCells, rowIn, rowsIn, hourIn}
+use Rattle.rules_state.specs.States.{floorsIn, standingIn, quarterIn, wholesIn, marketIn, curveInCells, rowIn, rowsIn, hourIn, stateCells}
 use Rattle.rules_state.specs.Takes.{ifAccepted}
-use Rattle.rules_state.proofs.OpenedLaws.{opened-into, opened-back}
+use Rattle.rules_state.proofs.OpenedLaws.{opened-into, opened-is, opened-back}
 use Rattle.rules_state.proofs.SameCells.{standing-same, quarter-same, market-same, rows-same}
 use Rattle.rules_state.proofs.StateCalls.{interval-answer, pass-answer, state-interval, state-pass}
 use Rattle.opening_puts.specs.Blocks.{blocksRoom, blockNumbers, Rooms}
@@ -57,6 +57,13 @@ module _ (o : Opening) where
       go zero l = absurd (omega arith)
       go (suc n) l = refl
 
+  pub refused-cells : 0 < openingRefusal o → (l : List ℤ) → l ≡ ifAccepted (openingRefusal o) (stateCells (openedRealTime o)) l
+  refused-cells h l = go (openingRefusal o) h
+    where
+      go : (n : ℕ) → 0 < n → l ≡ ifAccepted n (stateCells (openedRealTime o)) l
+      go zero k = absurd (omega arith)
+      go (suc n) k = refl
+
   -- the opening that its blocks are read as
   module _ (sellers : length (o .sellers) ≡ mostPortfolios) (many : length (o .list) ≡ mostResources) (rooms : Each Rooms (o .list)) (blocks : List ℤ)
       (put : blocks ≡ sets (replicate blocksRoom (pos 0)) 0 (flatMap blockNumbers (o .list))) where
@@ -73,6 +80,12 @@ module _ (o : Opening) where
     opened z cells e =
         let accepted = read-number ∙ z in
         ap hourIn (e ∙ opened-into read accepted (replicate stateRoom (pos 0))) ∙ opened-back read accepted stateRoom (omega (arith, few read accepted .2)) ∙ ap openedRealTime back ∙ opening-same o
+
+    pub cells-opened : openingRefusal o ≡ 0 → (cells : List ℤ) → cells ≡ openedInto read (replicate stateRoom (pos 0)) → cells ≡ stateCells (openedRealTime o)
+    cells-opened z cells e =
+        let accepted = read-number ∙ z in
+        e ∙ opened-into read accepted (replicate stateRoom (pos 0)) ∙ opened-is read accepted stateRoom (omega (arith, few read accepted .2)) refl
+        ∙ ap (λ (x : Opening). stateCells (openedRealTime x)) back ∙ ap stateCells (opening-same o)
 
 -- ---- a call
 written-so : {A : Type 0} (n : ℕ) (a b : List A) → ifAccepted n a b ≡ ifWritten (pos n) a b

@@ -1,13 +1,17 @@
 // Opening an hour, taking its intervals and their passes, and its bids (paper 01, Interval and hour; 31.2.3, 34.1.5; Refused, by place: 9 to 16; paper 02, 2.1 and 2.2:
 // 19 and 20). The contracts cite the definitions of rules_hour, rules_pass and rules_hour_bid; specs/Hours says which hour the struct stands for.
 ghost use mathlib.Core.Path.{_≡_};
+ghost use mathlib.Core.Bool.{true, false};
+ghost use lib.IntN.{pos};
+ghost use lib.ListN.{replicate};
 ghost use Rattle.rules_curve.specs.Refusals.{outcomeNumber};
 ghost use Rattle.rules_opening.specs.Openings.{openingRefusal};
 ghost use Rattle.rules_hour.specs.Hours.{curveIn, hourRefusal, hourVerdicts};
 ghost use Rattle.rules_pass.specs.Passes.{blankRealTime, openedRealTime, intervalAfter, passRefusal, passAfter, passVerdicts, fiveMinuteIn};
 ghost use Rattle.rules_path.specs.Judgements.{verdictsOf, verdictsUnless};
 ghost use Rattle.rules_hour_bid.specs.HourBids.{hourBidRefusal, hourBidOf};
-ghost use Rattle.rules_state.specs.States.{marketIn};
+ghost use Rattle.rules_state.specs.Layout.{stateRoom};
+ghost use Rattle.rules_state.specs.States.{marketIn, stateCells};
 ghost use Rattle.rules_state.specs.Takes.{ifAccepted};
 ghost use Rattle.hour_cells.specs.Calls.{refusalBy, writtenBy};
 ghost use Rattle.engine.specs.Hours.{asHour, asRealTime};
@@ -50,7 +54,8 @@ pub struct Answer {
 impl Hour {
     // The hour of no resources.
     pub fn blank() -> Hour
-        ensures { λ r. ⌜ asRealTime r ≡ blankRealTime ⌝ }
+        ensures hour { λ r. ⌜ asRealTime r ≡ blankRealTime ⌝ }
+        ensures cells { λ r. ⌜ r .cells ≡ replicate stateRoom (pos 0) ⌝ }
     {
         Hour {
             cells: [0i64; rules_state::STATE_ROOM],
@@ -61,6 +66,7 @@ impl Hour {
     pub fn open(o: Opening) -> Opened
         ensures number { λ r. ⌜ outcomeNumber (r .outcome) ≡ openingRefusal o ⌝ }
         ensures hour { λ r. ⌜ asRealTime (r .hour) ≡ openedRealTime o ⌝ }
+        ensures cells { λ r. ⌜ r .hour .cells ≡ ifAccepted (openingRefusal o) (stateCells (openedRealTime o)) (replicate stateRoom (pos 0)) ⌝ }
     {
         let sellers = o.sellers;
         let list = o.list;
@@ -157,6 +163,7 @@ impl Hour {
         ensures number { λ r. ⌜ outcomeNumber (r .outcome) ≡ hourRefusal (asHour self) v ⌝ }
         ensures hour { λ r. ⌜ asRealTime (r .hour) ≡ intervalAfter (asRealTime self) v ⌝ }
         ensures verdicts { λ r. ⌜ r .verdicts ≡ hourVerdicts (asHour self) v ⌝ }
+        ensures cells { λ r. ⌜ r .hour .cells ≡ ifAccepted (refusalBy false (self .cells) v) (writtenBy false (self .cells) v) (self .cells) ⌝ }
     {
         self.called(false, v)
     }
@@ -166,6 +173,7 @@ impl Hour {
         ensures number { λ r. ⌜ outcomeNumber (r .outcome) ≡ passRefusal (asRealTime self) v ⌝ }
         ensures hour { λ r. ⌜ asRealTime (r .hour) ≡ passAfter (asRealTime self) v ⌝ }
         ensures verdicts { λ r. ⌜ r .verdicts ≡ passVerdicts (asRealTime self) v ⌝ }
+        ensures cells { λ r. ⌜ r .hour .cells ≡ ifAccepted (refusalBy true (self .cells) v) (writtenBy true (self .cells) v) (self .cells) ⌝ }
     {
         self.called(true, v)
     }

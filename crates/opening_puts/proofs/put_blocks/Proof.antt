@@ -26,24 +26,6 @@ many c = search needs
 loop-holds : tie.Need-loop-holds Inv-loop μ-loop
 loop-holds c = (omega arith, refl, λ k h. absurd (omega arith), blocks-begin blockNumbers blockRoom (c .args .t2) (c .args .blocks .now) 0)
 
-mul-resource : tie.Need-mul-resource Inv-loop μ-loop
-mul-resource c = search needs
-
-array-copy-out-resource : tie.Need-array-copy-out-resource Inv-loop μ-loop
-array-copy-out-resource c = search needs
-
-mul-put-resource : tie.Need-mul-put-resource Inv-loop μ-loop
-mul-put-resource c = search needs
-
-put-resource-requires : tie.Need-put-resource-requires Inv-loop μ-loop
-put-resource-requires c κs = search needs
-
-add-r : tie.Need-add-r Inv-loop μ-loop
-add-r c = search needs
-
-loop-less : tie.Need-loop-less Inv-loop μ-loop
-loop-less c = search needs
-
 loop-again : tie.Need-loop-again Inv-loop μ-loop
 loop-again c =
     let p = c .before in
@@ -75,17 +57,5 @@ returns c =
 
 pub put-blocks-spec : {M : Type 1} → statement M
 put-blocks-spec =
-    tie.close
-    (tie.spec
-    Inv-loop
-    μ-loop
-    loop-holds
-    mul-resource
-    array-copy-out-resource
-    mul-put-resource
-    put-resource-requires
-    add-r
-    loop-less
-    loop-again
-    same-length
-    returns)
+    tie.close (tie.spec Inv-loop μ-loop loop-holds (λ c. search needs) (λ c. search needs) (λ c. search needs) (λ c κs. search needs)
+    (λ c. search needs) (λ c. search needs) loop-again same-length returns)

@@ -12,42 +12,6 @@ use Rattle.opening_puts.proofs.put_costs.Tie as tie
 eleven : (c : tie.Start) → length (c .args .costs .points) ≡ mostPoints
 eleven c = simp length-map at (c .good .1 .1 .0 .1 .1 .1 .0 .1 .0 .1)
 
-put-whole-requires : tie.Need-put-whole-requires
-put-whole-requires c κs = search needs
-
-add-put-points : tie.Need-add-put-points
-add-put-points c = search needs
-
-put-points-requires : tie.Need-put-points-requires
-put-points-requires c κs = search needs
-
-add-put-pair : tie.Need-add-put-pair
-add-put-pair c = search needs
-
-put-pair-requires : tie.Need-put-pair-requires
-put-pair-requires c κs = search needs
-
-add-put-pair-2 : tie.Need-add-put-pair-2
-add-put-pair-2 c = search needs
-
-put-pair-requires-2 : tie.Need-put-pair-requires-2
-put-pair-requires-2 c κs = search needs
-
-add-put-pair-3 : tie.Need-add-put-pair-3
-add-put-pair-3 c = search needs
-
-put-pair-requires-3 : tie.Need-put-pair-requires-3
-put-pair-requires-3 c κs = search needs
-
-add-put : tie.Need-add-put
-add-put c = search needs
-
-put-requires : tie.Need-put-requires
-put-requires c κs = search needs
-
-same-length : tie.Need-same-length
-same-length c = search needs
-
 returns : tie.Need-returns
 returns c =
     let f = c .before in
@@ -83,18 +47,6 @@ returns c =
 
 pub put-costs-spec : {M : Type 1} → statement M
 put-costs-spec =
-    tie.close
-    (tie.spec
-    put-whole-requires
-    add-put-points
-    put-points-requires
-    add-put-pair
-    put-pair-requires
-    add-put-pair-2
-    put-pair-requires-2
-    add-put-pair-3
-    put-pair-requires-3
-    add-put
-    put-requires
-    same-length
-    returns)
+    tie.close (tie.spec (λ c κs. search needs) (λ c. search needs) (λ c κs. search needs) (λ c. search needs) (λ c κs. search needs)
+    (λ c. search needs) (λ c κs. search needs) (λ c. search needs) (λ c κs. search needs) (λ c. search needs) (λ c κs. search needs)
+    (λ c. search needs) returns)

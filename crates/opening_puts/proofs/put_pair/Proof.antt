@@ -5,18 +5,6 @@ use Rattle.opening_puts.proofs.PutLaws.{pair-put}
 use Rattle.opening_puts.proofs.put_pair.Statement.{statement}
 use Rattle.opening_puts.proofs.put_pair.Tie as tie
 
-put-requires : tie.Need-put-requires
-put-requires c κs = search needs
-
-add-put : tie.Need-add-put
-add-put c = search needs
-
-put-requires-2 : tie.Need-put-requires-2
-put-requires-2 c κs = search needs
-
-same-length : tie.Need-same-length
-same-length c = search needs
-
 returns : tie.Need-returns
 returns c =
     let q = c .before in
@@ -26,4 +14,5 @@ returns c =
     pair-put (a .blocks .now) _ _ (a .at) (a .first) (a .second) (rd (a .first)) (rd (a .second)) (came (a .first) (s .fits .first .sfits)) (came (a .second) (s .fits .second .sfits)) (p .put .ensures) (q .put2 .ensures)
 
 pub put-pair-spec : {M : Type 1} → statement M
-put-pair-spec = tie.close (tie.spec put-requires add-put put-requires-2 same-length returns)
+put-pair-spec =
+    tie.close (tie.spec (λ c κs. search needs) (λ c. search needs) (λ c κs. search needs) (λ c. search needs) returns)

@@ -11,24 +11,6 @@ use Rattle.opening_puts.proofs.put_raw.Tie as tie
 eleven : (c : tie.Start) → length (c .args .raw .steps) ≡ mostSteps
 eleven c = simp length-map at (c .good .1 .1 .0 .1 .1 .1 .1 .0 .1 .0 .1)
 
-put-requires : tie.Need-put-requires
-put-requires c κs = search needs
-
-add-put-whole : tie.Need-add-put-whole
-add-put-whole c = search needs
-
-put-whole-requires : tie.Need-put-whole-requires
-put-whole-requires c κs = search needs
-
-add-put-steps : tie.Need-add-put-steps
-add-put-steps c = search needs
-
-put-steps-requires : tie.Need-put-steps-requires
-put-steps-requires c κs = search needs
-
-same-length : tie.Need-same-length
-same-length c = search needs
-
 returns : tie.Need-returns
 returns c =
     let q = c .before in
@@ -43,12 +25,5 @@ returns c =
 
 pub put-raw-spec : {M : Type 1} → statement M
 put-raw-spec =
-    tie.close
-    (tie.spec
-    put-requires
-    add-put-whole
-    put-whole-requires
-    add-put-steps
-    put-steps-requires
-    same-length
-    returns)
+    tie.close (tie.spec (λ c κs. search needs) (λ c. search needs) (λ c κs. search needs) (λ c. search needs) (λ c κs. search needs)
+    (λ c. search needs) returns)

@@ -9,39 +9,6 @@ use Rattle.opening_puts.proofs.PutLaws.{block-put}
 use Rattle.opening_puts.proofs.put_resource.Statement.{statement}
 use Rattle.opening_puts.proofs.put_resource.Tie as tie
 
-put-requires : tie.Need-put-requires
-put-requires c κs = search needs
-
-add-put-raw : tie.Need-add-put-raw
-add-put-raw c = search needs
-
-put-raw-requires : tie.Need-put-raw-requires
-put-raw-requires c κs = search needs
-
-add-put : tie.Need-add-put
-add-put c = search needs
-
-source-number-requires : tie.Need-source-number-requires
-source-number-requires c κs = search needs
-
-put-requires-2 : tie.Need-put-requires-2
-put-requires-2 c κs = search needs
-
-add-put-costs : tie.Need-add-put-costs
-add-put-costs c = search needs
-
-put-costs-requires : tie.Need-put-costs-requires
-put-costs-requires c κs = search needs
-
-add-put-raw-2 : tie.Need-add-put-raw-2
-add-put-raw-2 c = search needs
-
-put-raw-requires-2 : tie.Need-put-raw-requires-2
-put-raw-requires-2 c κs = search needs
-
-same-length : tie.Need-same-length
-same-length c = search needs
-
 returns : tie.Need-returns
 returns c =
     let k = c .before in
@@ -62,17 +29,5 @@ returns c =
 
 pub put-resource-spec : {M : Type 1} → statement M
 put-resource-spec =
-    tie.close
-    (tie.spec
-    put-requires
-    add-put-raw
-    put-raw-requires
-    add-put
-    source-number-requires
-    put-requires-2
-    add-put-costs
-    put-costs-requires
-    add-put-raw-2
-    put-raw-requires-2
-    same-length
-    returns)
+    tie.close (tie.spec (λ c κs. search needs) (λ c. search needs) (λ c κs. search needs) (λ c. search needs) (λ c κs. search needs)
+    (λ c κs. search needs) (λ c. search needs) (λ c κs. search needs) (λ c. search needs) (λ c κs. search needs) (λ c. search needs) returns)

@@ -14,8 +14,8 @@ use Rattle.rules_pass.specs.Passes.{openedRealTime}
 use Rattle.rules_state.specs.Layout.{mostResources, mostPortfolios, stateRoom}
 use Rattle.rules_state.specs.OpenedInto.{openedInto}
 use Rattle.rules_state.specs.Openings.{openingIn}
-use Rattle.rules_state.specs.States.{hourIn}
-use Rattle.engine.proofs.HourLaws.{refused, read-number, opened}
+use Rattle.rules_state.specs.States.{hourIn, stateCells}
+use Rattle.engine.proofs.HourLaws.{refused, refused-cells, read-number, opened, cells-opened}
 use Rattle.engine.proofs.Hour.open.Statement.{statement}
 use Rattle.engine.proofs.Hour.open.Tie as tie
 
@@ -53,17 +53,21 @@ number t = let b = put t in told t .0 ∙ read-number (asked b) (sellers t) (man
 hour : (t : tie.After-open-into) → openingRefusal (asked (put t)) ≡ 0 → hourIn (cells t) ≡ openedRealTime (asked (put t))
 hour t z = let b = put t in opened (asked b) (sellers t) (many t) (b .put-blocks .ensures .0) (blocks b) (b .put-blocks .ensures .1) z (cells t) (told t .1)
 
+whole : (t : tie.After-open-into) → openingRefusal (asked (put t)) ≡ 0 → cells t ≡ stateCells (openedRealTime (asked (put t)))
+whole t z = let b = put t in cells-opened (asked b) (sellers t) (many t) (b .put-blocks .ensures .0) (blocks b) (b .put-blocks .ensures .1) z (cells t) (told t .1)
+
 returns : tie.Need-returns
 returns c =
     let t = c .before .before .before .before in
     let k = c .before .enum-told2 .given in
     let some : 0 < openingRefusal (asked (put t)) = rw (← number t, k .1) (refused-number (k .0 .0)) in
-    (number t, c .blank .ensures ∙ refused (asked (put t)) some)
+    (number t, (c .blank .ensures .0 ∙ refused (asked (put t)) some, c .blank .ensures .1 ∙ refused-cells (asked (put t)) some (replicate stateRoom (pos 0))))
 
 returns-2 : tie.Need-returns-2
 returns-2 c =
     let t = c .before .before .before in
-    (number t, hour t (sym (number t) ∙ ap outcomeNumber (c .enum-told .given .1)))
+    let z = sym (number t) ∙ ap outcomeNumber (c .enum-told .given .1) in
+    (number t, (hour t z, rw z (whole t z)))
 
 pub open-spec : {M : Type 1} → statement M
 open-spec =

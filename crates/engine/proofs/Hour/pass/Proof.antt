@@ -22,7 +22,7 @@ returns c =
     let a = c .before .args in
     let t = c .called .ensures in
     let long : stateRoom ≤ length (a .self .cells) = omega (arith, room (c .before)) in
-    (t .0, (ap hourIn (t .1 .0) ∙ after-pass (a .self .cells) (a .v) long, t .1 .1))
+    (t .0, (ap hourIn (t .1 .0) ∙ after-pass (a .self .cells) (a .v) long, (t .1 .1, t .1 .0)))
 
 pub pass-spec : {M : Type 1} → statement M
 pass-spec = tie.close (tie.spec (λ c κs. search needs) returns)
