@@ -10,7 +10,7 @@
  * - A pointer with a length stands for that many elements. Where the length is 0 nothing is read or written through it, so that it may be
  *   null, as that of an empty std::vector; elsewhere it must not be. Buffers that are written must not overlap anything else that is passed.
  * - It keeps nothing between calls, allocates nothing and reads no files: any number of threads may call it at once. A run
- *   takes at most 128 KB of stack, a call of an hour in numbers 150 KB; give a thread that calls it 256 KiB.
+ *   takes at most 128 KB of stack, and so does any other call; give a thread that calls it 256 KiB.
  *
  * Units: quantities are hundredths of a MW, prices 0.0001 dollar per MWh, heat rates Btu/kWh.
  *

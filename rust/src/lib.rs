@@ -61,7 +61,7 @@
 //!
 //! # Threads
 //!
-//! The engine keeps nothing between calls; any number of threads may call it at once. A call takes at most 150 KB of stack, less than Rust
+//! The engine keeps nothing between calls; any number of threads may call it at once. A call takes at most 128 KB of stack, less than Rust
 //! gives a thread (2 MiB); a thread made with a smaller one should have 1 MiB.
 
 #![deny(unsafe_code)]

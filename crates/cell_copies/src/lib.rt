@@ -4,10 +4,8 @@ ghost use mathlib.Core.Path.{_≡_};
 ghost use Prim.Native.Nat.{_+_, _-_, _*_, _≤_, min as least};
 ghost use lib.ListN.{length};
 ghost use lib.Seq.{sets};
-ghost use Rattle.rules_number.specs.Order.{natOf};
 ghost use Rattle.rules_number.specs.Over.{listed};
 ghost use Rattle.rules_library.specs.Slices.{cellAt};
-ghost use Rattle.rules_state.specs.States.{wholesIn};
 
 // A place moved on by a step, or the end where that goes past it.
 fn onward(place: usize, step: usize, end: usize) -> usize
@@ -48,27 +46,6 @@ fn left_from(length: usize, at: usize) -> usize
         return 0;
     }
     length - at
-}
-
-// The whole number so many places after another.
-fn whole_after(s: &[i64], at: usize, k: usize) -> u64
-    ensures { λ r. ⌜ r ≡ natOf (cellAt (now (s .entry)) (at + k)) ⌝ }
-{
-    if left_from(s.len(), at) <= k {
-        return 0;
-    }
-    number::whole(s[at + k])
-}
-
-// Fills with the whole numbers from a place on.
-pub fn fill_wholes(into: &mut [u64], from: &[i64], at: usize)
-    ensures { λ r. ⌜ now (into .exit) ≡ wholesIn (now (from .entry)) at (length (now (into .entry))) ⌝ }
-{
-    let mut k: usize = 0;
-    while k < into.len() {
-        into[k] = whole_after(from, at, k);
-        k += 1;
-    }
 }
 
 // Puts numbers in turn, from an offset on.

@@ -1,9 +1,7 @@
 // Numbers read from lent slices, and put into them. A number past the end is read as 0 and is put nowhere. The contracts cite the definitions of rules_library
 // and rules_state.
 ghost use mathlib.Core.Path.{_≡_};
-ghost use mathlib.Core.List.{map};
 ghost use lib.ListN.{set};
-ghost use lib.Seq.{sets};
 ghost use Rattle.rules_number.specs.Order.{natOf};
 ghost use Rattle.rules_library.specs.Slices.{cellAt};
 ghost use Rattle.rules_state.specs.States.{cellOf};
@@ -46,18 +44,4 @@ pub fn put_whole(cells: &mut [i64], i: usize, n: u64)
     ensures { λ r. ⌜ now (cells .exit) ≡ set (now (cells .entry)) i (cellOf n) ⌝ }
 {
     put(cells, i, cell_of(n));
-}
-
-// Puts whole numbers in turn, from an offset on.
-pub fn put_wholes(cells: &mut [i64], at: usize, from: &[u64])
-    ensures { λ r. ⌜ now (cells .exit) ≡ sets (now (cells .entry)) at (map cellOf (now (from .entry))) ⌝ }
-{
-    if cells.len() <= at {
-        return;
-    }
-    let mut i: usize = 0;
-    while i < from.len() {
-        put_whole(cells, at + i, from[i]);
-        i += 1;
-    }
 }

@@ -5,20 +5,23 @@ use mathlib.Core.Path.{_≡_, refl, sym, ap, ap₂, _∙_}
 use Prim.Native.Nat.{ℕ, zero, suc, _+_, _<_, min}
 use native.Mathlib.Omega.{arith}
 use lib.IntN.{ℤ, pos}
-use lib.ListN.{length, set, length-map, length-set}
+use lib.ListN.{length, set, replicate, length-map, length-set}
 use lib.Seq.{set-append-left}
 use Rattle.rules_number.specs.Order.{natOf}
+use Rattle.rules_number.specs.Over.{padded}
 use Rattle.rules_number.proofs.RangeLaws.{nat-is}
-use Rattle.rules_curve.specs.Curves.{mostSteps, stepTo, unlessRefused}
+use Rattle.rules_curve.specs.Curves.{mostSteps, stepTo, blankCurve, unlessRefused}
 use Rattle.rules_curve.specs.declared.Step.{Step}
 use Rattle.rules_curve.specs.declared.Curve.{Curve}
 use Rattle.rules_cost.specs.Costs.{mwInRange, costRefusal, costCurve}
 use Rattle.rules_cost.specs.declared.Costs.{Costs}
 use Rattle.rules_library.specs.Slices.{cellAt}
 use Rattle.rules_state.specs.Fits.{CurveFits}
-use Rattle.rules_state.proofs.BackAgain.{curve-back}
+use Rattle.rules_state.specs.Layout.{curveRoom}
+use Rattle.rules_state.proofs.BackAgain.{curve-back, curve-room}
 use Rattle.rules_state.proofs.OpenedFits.{cost-fits, blank-fits}
 use Rattle.rules_state.specs.States.{cellOf, curveCells, curveInCells}
+use Rattle.rules_state.specs.Takes.{ifAccepted}
 
 -- ---- a step put into the cells of a curve
 set-right : {A : Type 0} (a b : List A) (k n : ℕ) (x : A) → length a ≡ n → set (a ++ b) (n + k) x ≡ a ++ set b k x
@@ -56,15 +59,31 @@ step-put start count l k e p n h =
 pub cell-in : (z : ℤ) → mwInRange z ≡ true → cellOf (natOf z) ≡ z
 cell-in z e = let n = nat-is 1000000 z e in let m : min (natOf z) 9223372036854775807 ≡ natOf z = omega (arith, n .1) in ap pos m ∙ sym (n .0)
 
--- ---- a default curve read back from its cells
-default-fits : (c : Costs) → CurveFits (unlessRefused (costRefusal c) (costCurve c))
-default-fits c = go (costRefusal c) refl
-  where
-    go : (n : ℕ) → costRefusal c ≡ n → CurveFits (unlessRefused n (costCurve c))
-    go zero e = cost-fits c e
-    go (suc n) e = blank-fits
+-- ---- a default curve, or a blank one where the costs are refused
+module _ (c : Costs) where
+  abbrev default : Curve
+  default = unlessRefused (costRefusal c) (costCurve c)
 
-pub default-back : (c : Costs) (l : List ℤ) → l ≡ curveCells (unlessRefused (costRefusal c) (costCurve c)) → curveInCells l 0 ≡ unlessRefused (costRefusal c) (costCurve c)
-default-back c l e =
-    let x = unlessRefused (costRefusal c) (costCurve c) in
-    curve-back l 0 x (default-fits c) (λ k h. let z : 0 + k ≡ k = omega arith in ap (λ (i : ℕ). cellAt l i) z ∙ ap (λ (m : List ℤ). cellAt m k) e)
+  default-fits : CurveFits default
+  default-fits = go (costRefusal c) refl
+    where
+      go : (n : ℕ) → costRefusal c ≡ n → CurveFits (unlessRefused n (costCurve c))
+      go zero e = cost-fits c e
+      go (suc n) e = blank-fits
+
+  -- put into blank cells
+  blank-cells : (n : ℕ) → ifAccepted n (curveCells (costCurve c)) (replicate curveRoom (pos 0)) ≡ curveCells (unlessRefused n (costCurve c))
+  unfolding blankCurve curveCells padded
+  blank-cells zero = refl
+  blank-cells (suc n) = refl
+
+  module _ (l : List ℤ) (e : l ≡ ifAccepted (costRefusal c) (curveCells (costCurve c)) (replicate curveRoom (pos 0))) where
+    put : l ≡ curveCells default
+    put = e ∙ blank-cells (costRefusal c)
+
+    pub default-room : length l ≡ curveRoom
+    default-room = ap length put ∙ curve-room default default-fits
+
+    -- and read back from them
+    pub default-back : curveInCells l 0 ≡ unlessRefused (costRefusal c) (costCurve c)
+    default-back = curve-back l 0 default default-fits (λ k h. let z : 0 + k ≡ k = omega arith in ap (λ (i : ℕ). cellAt l i) z ∙ ap (λ (m : List ℤ). cellAt m k) put)

@@ -24,15 +24,27 @@ use Rattle.rules_path.specs.Paths.{isNonCompetitive}
 use Rattle.rules_path.specs.declared.Market.{Market}
 use Rattle.rules_hour.specs.Cuts.{competitivePrice, cutBy, cutOf, entering, component}
 use Rattle.rules_state.specs.Layout.{mostResources, marketFrom, causeWidth}
+use Rattle.rules_state.specs.Intervals.{outputsIn}
 use Rattle.rules_state.specs.States.{floorOf, markOf, priceOf}
 use Rattle.rules_state.specs.Causes.{causeOf, causeAt, causesCells}
 use Rattle.rules_state.specs.Takes.{ifAccepted, cutCell, cutsBy, cutsTo}
 use Rattle.rules_state.specs.Verdicts.{judgedCells}
 use Rattle.rules_state.proofs.TakeLaws.{written-zero}
 use Rattle.rules_state.proofs.WrittenSlices.{judged-finding}
+use Rattle.interval.specs.Over.{outputAt}
+use Rattle.interval.specs.declared.Output.{Output}
+use Rattle.interval.proofs.OverLaws.{over-at, over-first}
 use Rattle.cutting.specs.Entering.{entersBy, enteringIn, componentOver, cutOver, causeOver}
 use Rattle.cutting.specs.Places.{countAt}
 use Rattle.cutting.proofs.EnteringLaws.{enters-is, entering-same}
+
+-- ---- price and dispatch of a resource, as they are lent
+module _ (outputs : List ℤ) (r : ℕ) (few : r < 64) (o : Output) (e : o ≡ outputAt outputs r) where
+  pub price-over : o .lmp ≡ cell (outputsIn outputs 0) r
+  price-over = ap (λ (x : Output). x .lmp) e ∙ sym (over-first outputs r few)
+
+  pub dispatch-over : o .dispatch ≡ cell (outputsIn outputs 1) r
+  dispatch-over = ap (λ (x : Output). x .dispatch) e ∙ sym (over-at outputs 1 r few)
 
 -- ---- a mark by its number
 pub lower-marked : (mark before price : ℤ) → (mark ≡ pos 0 → ⊥) → priceOf (lowered (floorOf mark before .price) (Cut price)) ≡ minZ before price

@@ -11,13 +11,15 @@ ghost use Rattle.rules_number.specs.Over.{listed};
 ghost use Rattle.rules_curve.specs.Refusals.{outcomeNumber};
 ghost use Rattle.rules_mitigation.specs.Mitigation.{lowered};
 ghost use Rattle.rules_mitigation.specs.declared.FloorPrice.the-variants.{Cut};
-ghost use Rattle.rules_interval.specs.Intervals.{cell, intervalOf, intervalRefusal};
+ghost use Rattle.rules_interval.specs.Intervals.{cell, intervalRefusal};
 ghost use Rattle.rules_hour.specs.Cuts.{competitivePrice, cutBy};
 ghost use Rattle.rules_state.specs.Layout.{mostResources, causeWidth, causeRoom, marketFrom};
+ghost use Rattle.rules_state.specs.Intervals.{outputsIn};
 ghost use Rattle.rules_state.specs.States.{floorOf, priceOf, marketIn};
 ghost use Rattle.rules_state.specs.Verdicts.{judgedCells};
 ghost use Rattle.rules_state.specs.Causes.{causesCells};
 ghost use Rattle.rules_state.specs.Takes.{ifAccepted, cutCell, cutsBy};
+ghost use Rattle.interval.specs.Over.{intervalOver};
 ghost use Rattle.cutting.specs.Entering.{entersBy, Lists, Addable, componentOver, Priced, cutOver, causeOver};
 ghost use Rattle.cutting.specs.Places.{countAt, counted};
 use rules_curve::Outcome;
@@ -47,14 +49,14 @@ fn enters(finding: i64) -> usize
 }
 
 // Lists those of m constraints that enter the component, by the cells of their verdicts, and answers how many they are.
-fn entering_in(verdicts: &[i64], m: usize, list: &mut [usize; Interval::MAX_CONSTRAINTS]) -> usize
+fn entering_in(verdicts: &[i64], m: usize, list: &mut [u8; Interval::MAX_CONSTRAINTS]) -> usize
     requires { ⌜ (length (now verdicts) ≡ 640) × ((length (now list) ≡ 32) × (m ≤ 32)) ⌝ }
     ensures { λ r. ⌜ Lists (now (verdicts .entry)) m (now (list .exit)) r ⌝ }
 {
     let mut count: usize = 0;
     let mut c: usize = 0;
     while c < m {
-        list[count] = c;
+        list[count] = c as u8;
         count += enters(verdicts[rules_state::VERDICT_WIDTH * c]);
         c += 1;
     }
@@ -73,12 +75,7 @@ fn factor_at(factors: &[i64], inside: bool, i: usize) -> i64
 }
 
 // C, the non-competitive congestion component of resource r, over the constraints that enter it.
-fn component_over<'a>(
-    factors: &'a [i64],
-    shadow: &'a [i64; Interval::MAX_CONSTRAINTS],
-    entering: &'a [usize],
-    r: usize,
-) -> i64
+fn component_over<'a>(factors: &'a [i64], shadow: &'a [i64], entering: &'a [u8], r: usize) -> i64
     requires { ⌜ Addable (now factors) (now shadow) (now entering) r ⌝ }
     ensures { λ z. ⌜ z ≡ componentOver (now (factors .entry)) (now (shadow .entry)) (now (entering .entry)) r ⌝ }
 {
@@ -87,8 +84,8 @@ fn component_over<'a>(
     let mut sum: i64 = 0;
     let mut k: usize = 0;
     while k < entering.len() {
-        let c = entering[k];
-        sum += factor_at(factors, inside, row + c) * shadow[c];
+        let c = entering[k] as usize;
+        sum += factor_at(factors, inside, row + c) * cells::cell_at(shadow, c);
         k += 1;
     }
     -sum
@@ -99,8 +96,8 @@ fn cut_over<'a>(
     dispatch: i64,
     lmp: i64,
     factors: &'a [i64],
-    shadow: &'a [i64; Interval::MAX_CONSTRAINTS],
-    entering: &'a [usize],
+    shadow: &'a [i64],
+    entering: &'a [u8],
     r: usize,
     parameter: i64,
 ) -> FloorPrice
@@ -147,20 +144,28 @@ fn cut_cell(state: &mut [i64], from: usize, r: usize, cut: FloorPrice)
 fn cut_cells<'a>(
     state: &mut [i64],
     from: usize,
-    entering: &'a [usize],
-    shadow: &'a [i64; Interval::MAX_CONSTRAINTS],
+    entering: &'a [u8],
+    shadow: &'a [i64],
     resources: usize,
-    lmp: &'a [i64; Interval::MAX_RESOURCES],
-    dispatch: &'a [i64; Interval::MAX_RESOURCES],
+    outputs: &'a [i64],
     factors: &'a [i64],
     parameter: i64,
 )
-    requires { ⌜ (from ≤ marketFrom) × Priced resources (now lmp) (now factors) (now shadow) (now entering) parameter ⌝ }
-    ensures { λ x. ⌜ now (state .exit) ≡ cutsBy (cutOver (now (lmp .entry)) (now (dispatch .entry)) (now (factors .entry)) (now (shadow .entry)) (now (entering .entry)) parameter) from resources (now (state .entry)) ⌝ }
+    requires { ⌜ (from ≤ marketFrom) × Priced resources (outputsIn (now outputs) 0) (now factors) (now shadow) (now entering) parameter ⌝ }
+    ensures { λ x. ⌜ now (state .exit) ≡ cutsBy (cutOver (outputsIn (now (outputs .entry)) 0) (outputsIn (now (outputs .entry)) 1) (now (factors .entry)) (now (shadow .entry)) (now (entering .entry)) parameter) from resources (now (state .entry)) ⌝ }
 {
     let mut r: usize = 0;
     while r < resources {
-        let cut = cut_over(dispatch[r], lmp[r], factors, shadow, entering, r, parameter);
+        let output = interval::output_at(outputs, r);
+        let cut = cut_over(
+            output.dispatch,
+            output.lmp,
+            factors,
+            shadow,
+            entering,
+            r,
+            parameter,
+        );
         cut_cell(state, from, r, cut);
         r += 1;
     }
@@ -183,29 +188,23 @@ pub fn cut_into<'a>(
     pass: bool,
     count: u64,
     constraints: usize,
-    shadow: &'a [i64; Interval::MAX_CONSTRAINTS],
+    shadow: &'a [i64],
     resources: usize,
-    lmp: &'a [i64; Interval::MAX_RESOURCES],
-    dispatch: &'a [i64; Interval::MAX_RESOURCES],
-    available: &'a [i64; Interval::MAX_RESOURCES],
-    floor: &'a [i64; Interval::MAX_RESOURCES],
+    outputs: &'a [i64],
     factors: &'a [i64],
     parameter: i64,
     verdicts: &mut [i64; rules_state::VERDICT_ROOM],
 ) -> Outcome
-    ensures number { λ r. ⌜ outcomeNumber r ≡ intervalRefusal (marketIn (now (state .entry)) .resources) (intervalOf constraints (now (shadow .entry)) resources (now (lmp .entry)) (now (dispatch .entry)) (now (available .entry)) (now (floor .entry)) (now (factors .entry)) parameter) ⌝ }
-    ensures state { λ r. ⌜ now (state .exit) ≡ ifAccepted (intervalRefusal (marketIn (now (state .entry)) .resources) (intervalOf constraints (now (shadow .entry)) resources (now (lmp .entry)) (now (dispatch .entry)) (now (available .entry)) (now (floor .entry)) (now (factors .entry)) parameter)) (counted pass count (intervalOf constraints (now (shadow .entry)) resources (now (lmp .entry)) (now (dispatch .entry)) (now (available .entry)) (now (floor .entry)) (now (factors .entry)) parameter) (now (state .entry))) (now (state .entry)) ⌝ }
-    ensures verdicts { λ r. ⌜ now (verdicts .exit) ≡ ifAccepted (intervalRefusal (marketIn (now (state .entry)) .resources) (intervalOf constraints (now (shadow .entry)) resources (now (lmp .entry)) (now (dispatch .entry)) (now (available .entry)) (now (floor .entry)) (now (factors .entry)) parameter)) (sets (now (verdicts .entry)) 0 (judgedCells (marketIn (now (state .entry))) (intervalOf constraints (now (shadow .entry)) resources (now (lmp .entry)) (now (dispatch .entry)) (now (available .entry)) (now (floor .entry)) (now (factors .entry)) parameter))) (now (verdicts .entry)) ⌝ }
+    ensures number { λ r. ⌜ outcomeNumber r ≡ intervalRefusal (marketIn (now (state .entry)) .resources) (intervalOver constraints (now (shadow .entry)) resources (now (outputs .entry)) (now (factors .entry)) parameter) ⌝ }
+    ensures state { λ r. ⌜ now (state .exit) ≡ ifAccepted (intervalRefusal (marketIn (now (state .entry)) .resources) (intervalOver constraints (now (shadow .entry)) resources (now (outputs .entry)) (now (factors .entry)) parameter)) (counted pass count (intervalOver constraints (now (shadow .entry)) resources (now (outputs .entry)) (now (factors .entry)) parameter) (now (state .entry))) (now (state .entry)) ⌝ }
+    ensures verdicts { λ r. ⌜ now (verdicts .exit) ≡ ifAccepted (intervalRefusal (marketIn (now (state .entry)) .resources) (intervalOver constraints (now (shadow .entry)) resources (now (outputs .entry)) (now (factors .entry)) parameter)) (sets (now (verdicts .entry)) 0 (judgedCells (marketIn (now (state .entry))) (intervalOver constraints (now (shadow .entry)) resources (now (outputs .entry)) (now (factors .entry)) parameter))) (now (verdicts .entry)) ⌝ }
 {
     let outcome = path::judged_into(
         state,
         constraints,
         shadow,
         resources,
-        lmp,
-        dispatch,
-        available,
-        floor,
+        outputs,
         factors,
         parameter,
         verdicts,
@@ -213,7 +212,7 @@ pub fn cut_into<'a>(
     let Outcome::Accepted = outcome else {
         return outcome;
     };
-    let mut list = [0usize; Interval::MAX_CONSTRAINTS];
+    let mut list = [0u8; Interval::MAX_CONSTRAINTS];
     let entering = entering_in(verdicts, constraints, &mut list);
     let at = count_at(pass);
     cut_cells(
@@ -222,8 +221,7 @@ pub fn cut_into<'a>(
         &list[..entering],
         shadow,
         resources,
-        lmp,
-        dispatch,
+        outputs,
         factors,
         parameter,
     );
@@ -254,16 +252,15 @@ fn put_four(out: &mut [i64], at: usize, a: i64, b: i64, c: i64, d: i64)
 fn put_cause<'a>(
     causes: &mut [i64],
     r: usize,
-    entering: &'a [usize],
-    shadow: &'a [i64; Interval::MAX_CONSTRAINTS],
+    entering: &'a [u8],
+    shadow: &'a [i64],
     resources: usize,
-    lmp: &'a [i64; Interval::MAX_RESOURCES],
-    dispatch: &'a [i64; Interval::MAX_RESOURCES],
+    outputs: &'a [i64],
     factors: &'a [i64],
     parameter: i64,
 )
-    requires { ⌜ (r < 64) × Priced resources (now lmp) (now factors) (now shadow) (now entering) parameter ⌝ }
-    ensures { λ x. ⌜ now (causes .exit) ≡ sets (now (causes .entry)) (causeWidth * r) (causeOver resources (now (lmp .entry)) (now (dispatch .entry)) (now (factors .entry)) (now (shadow .entry)) (now (entering .entry)) parameter r) ⌝ }
+    requires { ⌜ (r < 64) × Priced resources (outputsIn (now outputs) 0) (now factors) (now shadow) (now entering) parameter ⌝ }
+    ensures { λ x. ⌜ now (causes .exit) ≡ sets (now (causes .entry)) (causeWidth * r) (causeOver resources (outputsIn (now (outputs .entry)) 0) (outputsIn (now (outputs .entry)) 1) (now (factors .entry)) (now (shadow .entry)) (now (entering .entry)) parameter r) ⌝ }
 {
     let at = rules_state::CAUSE_WIDTH * r;
     if resources <= r {
@@ -271,8 +268,9 @@ fn put_cause<'a>(
         return;
     }
     let component = component_over(factors, shadow, entering, r);
-    let cut = cut_by(dispatch[r], lmp[r], component, parameter);
-    let competitive = competitive_of(lmp[r], component);
+    let output = interval::output_at(outputs, r);
+    let cut = cut_by(output.dispatch, output.lmp, component, parameter);
+    let competitive = competitive_of(output.lmp, component);
     put_four(
         causes,
         at,
@@ -286,16 +284,15 @@ fn put_cause<'a>(
 // The same of each resource.
 fn put_causes<'a>(
     causes: &mut [i64],
-    entering: &'a [usize],
-    shadow: &'a [i64; Interval::MAX_CONSTRAINTS],
+    entering: &'a [u8],
+    shadow: &'a [i64],
     resources: usize,
-    lmp: &'a [i64; Interval::MAX_RESOURCES],
-    dispatch: &'a [i64; Interval::MAX_RESOURCES],
+    outputs: &'a [i64],
     factors: &'a [i64],
     parameter: i64,
 )
-    requires { ⌜ Priced resources (now lmp) (now factors) (now shadow) (now entering) parameter ⌝ }
-    ensures { λ x. ⌜ now (causes .exit) ≡ sets (now (causes .entry)) 0 (flatMap (causeOver resources (now (lmp .entry)) (now (dispatch .entry)) (now (factors .entry)) (now (shadow .entry)) (now (entering .entry)) parameter) (listed (λ r. r) mostResources)) ⌝ }
+    requires { ⌜ Priced resources (outputsIn (now outputs) 0) (now factors) (now shadow) (now entering) parameter ⌝ }
+    ensures { λ x. ⌜ now (causes .exit) ≡ sets (now (causes .entry)) 0 (flatMap (causeOver resources (outputsIn (now (outputs .entry)) 0) (outputsIn (now (outputs .entry)) 1) (now (factors .entry)) (now (shadow .entry)) (now (entering .entry)) parameter) (listed (λ r. r) mostResources)) ⌝ }
 {
     let mut r: usize = 0;
     while r < Interval::MAX_RESOURCES {
@@ -305,8 +302,7 @@ fn put_causes<'a>(
             entering,
             shadow,
             resources,
-            lmp,
-            dispatch,
+            outputs,
             factors,
             parameter,
         );
@@ -319,18 +315,15 @@ fn put_causes<'a>(
 pub fn causes_into<'a>(
     state: &'a [i64],
     constraints: usize,
-    shadow: &'a [i64; Interval::MAX_CONSTRAINTS],
+    shadow: &'a [i64],
     resources: usize,
-    lmp: &'a [i64; Interval::MAX_RESOURCES],
-    dispatch: &'a [i64; Interval::MAX_RESOURCES],
-    available: &'a [i64; Interval::MAX_RESOURCES],
-    floor: &'a [i64; Interval::MAX_RESOURCES],
+    outputs: &'a [i64],
     factors: &'a [i64],
     parameter: i64,
     causes: &mut [i64],
 ) -> Outcome
-    ensures number { λ r. ⌜ outcomeNumber r ≡ intervalRefusal (marketIn (now (state .entry)) .resources) (intervalOf constraints (now (shadow .entry)) resources (now (lmp .entry)) (now (dispatch .entry)) (now (available .entry)) (now (floor .entry)) (now (factors .entry)) parameter) ⌝ }
-    ensures causes { λ r. ⌜ now (causes .exit) ≡ ifAccepted (intervalRefusal (marketIn (now (state .entry)) .resources) (intervalOf constraints (now (shadow .entry)) resources (now (lmp .entry)) (now (dispatch .entry)) (now (available .entry)) (now (floor .entry)) (now (factors .entry)) parameter)) (sets (now (causes .entry)) 0 (causesCells (marketIn (now (state .entry))) (intervalOf constraints (now (shadow .entry)) resources (now (lmp .entry)) (now (dispatch .entry)) (now (available .entry)) (now (floor .entry)) (now (factors .entry)) parameter))) (now (causes .entry)) ⌝ }
+    ensures number { λ r. ⌜ outcomeNumber r ≡ intervalRefusal (marketIn (now (state .entry)) .resources) (intervalOver constraints (now (shadow .entry)) resources (now (outputs .entry)) (now (factors .entry)) parameter) ⌝ }
+    ensures causes { λ r. ⌜ now (causes .exit) ≡ ifAccepted (intervalRefusal (marketIn (now (state .entry)) .resources) (intervalOver constraints (now (shadow .entry)) resources (now (outputs .entry)) (now (factors .entry)) parameter)) (sets (now (causes .entry)) 0 (causesCells (marketIn (now (state .entry))) (intervalOver constraints (now (shadow .entry)) resources (now (outputs .entry)) (now (factors .entry)) parameter))) (now (causes .entry)) ⌝ }
 {
     let mut verdicts = [0i64; rules_state::VERDICT_ROOM];
     let outcome = path::judged_into(
@@ -338,10 +331,7 @@ pub fn causes_into<'a>(
         constraints,
         shadow,
         resources,
-        lmp,
-        dispatch,
-        available,
-        floor,
+        outputs,
         factors,
         parameter,
         &mut verdicts,
@@ -349,15 +339,14 @@ pub fn causes_into<'a>(
     let Outcome::Accepted = outcome else {
         return outcome;
     };
-    let mut list = [0usize; Interval::MAX_CONSTRAINTS];
+    let mut list = [0u8; Interval::MAX_CONSTRAINTS];
     let entering = entering_in(&verdicts, constraints, &mut list);
     put_causes(
         causes,
         &list[..entering],
         shadow,
         resources,
-        lmp,
-        dispatch,
+        outputs,
         factors,
         parameter,
     );

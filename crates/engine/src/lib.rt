@@ -15,6 +15,7 @@ ghost use Rattle.rules_state.specs.States.{marketIn, stateCells};
 ghost use Rattle.rules_state.specs.Takes.{ifAccepted};
 ghost use Rattle.hour_cells.specs.Calls.{refusalBy, writtenBy};
 ghost use Rattle.engine.specs.Hours.{asHour, asRealTime};
+ghost use Rattle.engine.specs.Outputs.{OutputsIn};
 use rules_curve::Outcome;
 use rules_curve::Refusal;
 use rules_hour::Standing;
@@ -36,6 +37,27 @@ impl Hour {
     pub const MAX_INTERVALS: u64 = Standing::MAX_INTERVALS;
 
     pub const MAX_PASSES: u64 = Quarter::MAX_PASSES;
+}
+
+// Locational price, dispatch, available and floor of each resource in turn.
+fn outputs_of<'a>(
+    lmp: &'a [i64; Interval::MAX_RESOURCES],
+    dispatch: &'a [i64; Interval::MAX_RESOURCES],
+    available: &'a [i64; Interval::MAX_RESOURCES],
+    floor: &'a [i64; Interval::MAX_RESOURCES],
+) -> [i64; 4 * Interval::MAX_RESOURCES]
+    ensures { λ r. ⌜ OutputsIn r (now (lmp .entry)) (now (dispatch .entry)) (now (available .entry)) (now (floor .entry)) ⌝ }
+{
+    let mut outputs = [0i64; 4 * Interval::MAX_RESOURCES];
+    let mut r: usize = 0;
+    while r < Interval::MAX_RESOURCES {
+        outputs[4 * r] = lmp[r];
+        outputs[4 * r + 1] = dispatch[r];
+        outputs[4 * r + 2] = available[r];
+        outputs[4 * r + 3] = floor[r];
+        r += 1;
+    }
+    outputs
 }
 
 // What opening answers: the fresh hour, or a blank one and the refusal.
@@ -136,6 +158,7 @@ impl Hour {
     {
         let mut cells = self.cells;
         let mut found = taking::none_found();
+        let outputs = outputs_of(&v.lmp, &v.dispatch, &v.available, &v.floor);
         let parameter = v.parameter;
         let outcome = hour_cells::call_into(
             &mut cells,
@@ -143,10 +166,7 @@ impl Hour {
             v.constraints,
             &v.shadow,
             v.resources,
-            &v.lmp,
-            &v.dispatch,
-            &v.available,
-            &v.floor,
+            &outputs,
             &v.factors,
             parameter,
             &mut found,

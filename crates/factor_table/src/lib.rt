@@ -76,14 +76,14 @@ fn factor_cell(r: usize, c: usize) -> usize
     r * Interval::MAX_CONSTRAINTS + c
 }
 
-// For how many constraints of resource r there are cells, of so many in all.
+// For how many constraints of resource r there are cells, of so many in all: for all of them or for none.
 fn room_of(len: usize, r: usize) -> usize
     ensures { λ k. ⌜ ((c : ℕ) → c < k → (r < 64) × (c < 32) × (r * 32 + c < len)) ⌝ }
 {
-    let base = number::at_most(r, Interval::MAX_RESOURCES) * Interval::MAX_CONSTRAINTS;
-    let all = number::at_most(len, Interval::MAX_FACTORS);
-    let end = number::at_most(all, base + Interval::MAX_CONSTRAINTS);
-    end - number::at_most(end, base)
+    if r < number::at_most(len / Interval::MAX_CONSTRAINTS, Interval::MAX_RESOURCES) {
+        return Interval::MAX_CONSTRAINTS;
+    }
+    0
 }
 
 // Puts a factor into its cell. The room is the same for a whole row, so that a line costs one test.

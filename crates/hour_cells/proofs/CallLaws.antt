@@ -25,6 +25,7 @@ use Rattle.rules_state.specs.Takes.{ifAccepted, standingWritten}
 use Rattle.rules_state.specs.Verdicts.{judgedCells}
 use Rattle.rules_state.proofs.TakeLaws.{written-zero}
 use Rattle.rules_state.proofs.WrittenSlices.{sound-call, sound-turn}
+use Rattle.cutting.proofs.AlikeLaws.{Alike, call-same, call-begins, call-verdicts, turn-same, turn-state, turn-verdicts}
 use Rattle.hour_cells.specs.Calls.{refusalBy, writtenBy}
 
 -- ---- a blank row has the curve of none
@@ -60,3 +61,9 @@ Called pass l k v n s t =
 
 pub by-kind : (kind pass : Bool) (l k : List ℤ) (v : Interval) (n : ℕ) (s t : List ℤ) → pass ≡ kind → Called kind l k v n s t → Called pass l k v n s t
 by-kind kind pass l k v n s t e h = rw e h
+
+-- the same of an interval that is alike
+pub alike-called : (pass : Bool) (l k : List ℤ) (v w : Interval) → Alike (marketIn l .resources) v w → (n : ℕ) (s t : List ℤ) → Called pass l k v n s t → Called pass l k w n s t
+unfolding refusalBy writtenBy
+alike-called true l k v w a n s t h = (h .0 ∙ turn-same v w l a, (h .1 .0 ∙ turn-state v w l a, h .1 .1 ∙ turn-verdicts v w l a k))
+alike-called false l k v w a n s t h = (h .0 ∙ call-same v w l a, (h .1 .0 ∙ call-begins v w l a, h .1 .1 ∙ call-verdicts v w l a k))

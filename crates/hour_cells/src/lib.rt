@@ -1,17 +1,16 @@
 // An hour in lent cells: the present curve and the five-minute curve of a resource, and an interval or a pass taken (paper 01, Interval and hour; 31.2.3, 34.1.5; Refused,
 // by place: 12 to 16; paper 02, 2.1: 19). The contracts cite the definitions of rules_state and specs/Calls.
 use rules_curve::Outcome;
-use rules_interval::Interval;
 use rules_mitigation::Mitigated;
 ghost use mathlib.Core.Path.{_≡_};
 ghost use lib.Seq.{sets};
 ghost use Rattle.rules_curve.specs.Refusals.{outcomeNumber};
-ghost use Rattle.rules_interval.specs.Intervals.{intervalOf};
 ghost use Rattle.rules_hour.specs.Hours.{curveIn};
 ghost use Rattle.rules_pass.specs.Passes.{fiveMinuteIn};
 ghost use Rattle.rules_state.specs.States.{marketIn, hourIn};
 ghost use Rattle.rules_state.specs.Verdicts.{judgedCells};
 ghost use Rattle.rules_state.specs.Takes.{ifAccepted};
+ghost use Rattle.interval.specs.Over.{intervalOver};
 ghost use Rattle.hour_cells.specs.Calls.{refusalBy, writtenBy};
 
 // The present curve of resource r of the hour that the state stands for: a blank one where it has no such resource.
@@ -35,25 +34,23 @@ pub fn five_minute_in(state: &[i64], r: usize) -> Mitigated
     standing::row_curve(row, standing::cut_floor(floor, price))
 }
 
-// A pass, or an interval, of these values taken in the hour that the state stands for; an accepted interval begins a quarter hour. Its verdicts go to the front of
-// `verdicts`. Refused, both are as they were.
+// A pass, or an interval, of these values taken in the hour that the state stands for; an accepted interval begins a quarter hour. `outputs` has locational price,
+// dispatch, available and floor of each resource in turn, and numbers past a slice's end count as 0. Its verdicts go to the front of `verdicts`. Refused, both are as
+// they were.
 pub fn call_into<'a>(
     state: &mut [i64],
     pass: bool,
     constraints: usize,
-    shadow: &'a [i64; Interval::MAX_CONSTRAINTS],
+    shadow: &'a [i64],
     resources: usize,
-    lmp: &'a [i64; Interval::MAX_RESOURCES],
-    dispatch: &'a [i64; Interval::MAX_RESOURCES],
-    available: &'a [i64; Interval::MAX_RESOURCES],
-    floor: &'a [i64; Interval::MAX_RESOURCES],
+    outputs: &'a [i64],
     factors: &'a [i64],
     parameter: i64,
     verdicts: &mut [i64; rules_state::VERDICT_ROOM],
 ) -> Outcome
-    ensures number { λ r. ⌜ outcomeNumber r ≡ refusalBy pass (now (state .entry)) (intervalOf constraints (now (shadow .entry)) resources (now (lmp .entry)) (now (dispatch .entry)) (now (available .entry)) (now (floor .entry)) (now (factors .entry)) parameter) ⌝ }
-    ensures state { λ r. ⌜ now (state .exit) ≡ ifAccepted (refusalBy pass (now (state .entry)) (intervalOf constraints (now (shadow .entry)) resources (now (lmp .entry)) (now (dispatch .entry)) (now (available .entry)) (now (floor .entry)) (now (factors .entry)) parameter)) (writtenBy pass (now (state .entry)) (intervalOf constraints (now (shadow .entry)) resources (now (lmp .entry)) (now (dispatch .entry)) (now (available .entry)) (now (floor .entry)) (now (factors .entry)) parameter)) (now (state .entry)) ⌝ }
-    ensures verdicts { λ r. ⌜ now (verdicts .exit) ≡ ifAccepted (refusalBy pass (now (state .entry)) (intervalOf constraints (now (shadow .entry)) resources (now (lmp .entry)) (now (dispatch .entry)) (now (available .entry)) (now (floor .entry)) (now (factors .entry)) parameter)) (sets (now (verdicts .entry)) 0 (judgedCells (marketIn (now (state .entry))) (intervalOf constraints (now (shadow .entry)) resources (now (lmp .entry)) (now (dispatch .entry)) (now (available .entry)) (now (floor .entry)) (now (factors .entry)) parameter))) (now (verdicts .entry)) ⌝ }
+    ensures number { λ r. ⌜ outcomeNumber r ≡ refusalBy pass (now (state .entry)) (intervalOver constraints (now (shadow .entry)) resources (now (outputs .entry)) (now (factors .entry)) parameter) ⌝ }
+    ensures state { λ r. ⌜ now (state .exit) ≡ ifAccepted (refusalBy pass (now (state .entry)) (intervalOver constraints (now (shadow .entry)) resources (now (outputs .entry)) (now (factors .entry)) parameter)) (writtenBy pass (now (state .entry)) (intervalOver constraints (now (shadow .entry)) resources (now (outputs .entry)) (now (factors .entry)) parameter)) (now (state .entry)) ⌝ }
+    ensures verdicts { λ r. ⌜ now (verdicts .exit) ≡ ifAccepted (refusalBy pass (now (state .entry)) (intervalOver constraints (now (shadow .entry)) resources (now (outputs .entry)) (now (factors .entry)) parameter)) (sets (now (verdicts .entry)) 0 (judgedCells (marketIn (now (state .entry))) (intervalOver constraints (now (shadow .entry)) resources (now (outputs .entry)) (now (factors .entry)) parameter))) (now (verdicts .entry)) ⌝ }
 {
     if pass {
         return taking::pass_into(
@@ -61,10 +58,7 @@ pub fn call_into<'a>(
             constraints,
             shadow,
             resources,
-            lmp,
-            dispatch,
-            available,
-            floor,
+            outputs,
             factors,
             parameter,
             verdicts,
@@ -75,10 +69,7 @@ pub fn call_into<'a>(
         constraints,
         shadow,
         resources,
-        lmp,
-        dispatch,
-        available,
-        floor,
+        outputs,
         factors,
         parameter,
         verdicts,

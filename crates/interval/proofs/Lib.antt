@@ -1,2 +1,3 @@
 -- Laws that the proofs of the code use.
 pub mod RowLaws
+pub mod OverLaws

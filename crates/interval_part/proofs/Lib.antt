@@ -1,5 +1,4 @@
 -- Laws that the proofs of the code use.
-pub mod FewFactors
 pub mod ReadLaws
 pub mod IntervalLaws
 pub mod PartLaws

@@ -1,57 +1,37 @@
--- Laws of a part: what the answer to a faulty line shows, whatever the cells hold, and what is answered by the number that refuses it. Assumes nothing.
-use Prim.Native.Nat.{ℕ, zero, suc, _≤_}
+-- Laws of a part: what the answer to a faulty line shows, whatever the cells hold, what the cells of its tables hold, and what is answered by the number that refuses it. Assumes nothing.
+use Prim.Native.Nat.{ℕ, zero, suc, _+_, _*_, _≤_, _<_, min}
 use mathlib.Core.Path.{_≡_, refl, sym, ap, ap₂, _∙_}
-use mathlib.Core.List.{List, [], _∷_}
+use mathlib.Core.List.{List, [], _∷_, map, flatMap}
 use native.Mathlib.Omega.{arith}
-use lib.ListN.{drop, take, set, replicate}
+use lib.ListN.{length, take, set, replicate}
+use lib.Seq.{sets, getD-take}
 use lib.IntN.{ℤ, pos}
 use Rattle.rules_number.specs.Order.{natOf}
-use Rattle.rules_interval.specs.Intervals.{intervalOf}
+use Rattle.rules_number.proofs.OverLaws.{listed-at}
 use Rattle.rules_interval.specs.declared.Interval.{Interval}
-use Rattle.rules_text.specs.Numbers.{Line, Row, lines}
-use Rattle.rules_text.specs.Tables.{Reading, faulty, found, cell}
-use Rattle.rules_parts.specs.Parts.{factorCell, withFactor, withFactors}
+use Rattle.rules_text.specs.Numbers.{Line, Row}
+use Rattle.rules_text.specs.Tables.{Reading, faulty, cell}
+use Rattle.rules_text.specs.Offsets.{kept}
+use Rattle.rules_text.proofs.ListLaws.{sets-read}
+use Rattle.rules_parts.specs.Parts.{factorCell, withFactor, withFactors, intervalOf}
+use Rattle.rules_library.specs.Slices.{cellAt}
+use Rattle.rules_state.specs.Intervals.{outputsIn}
 use Rattle.rules_state.specs.Takes.{ifAccepted}
-use Rattle.interval_part.specs.Shown.{reading, nextIf}
-use Rattle.interval_part.proofs.ReadLaws.{refuses, no-next}
+use Rattle.interval.specs.Over.{intervalOver}
+use Rattle.cutting.proofs.AlikeLaws.{Alike}
+use Rattle.interval_part.specs.Shown.{nextIf}
+use Rattle.interval_part.specs.Taken.{Seen, PartRead, answered}
 use Rattle.interval_part.specs.declared.Part.{Part}
-use Rattle.interval_part.specs.Taken.{shownPart, seen, seenOf, answered}
 use Rattle.interval_part.specs.declared.PartTaken.{PartTaken}
+use Rattle.interval_part.proofs.ReadLaws.{no-next}
 
--- the answer of a faulty line, and what is to be read
-module _ (s : List ℕ) (r : Part) (f : ℕ) (e : r .fault ≡ f) (h : f ≡ 0 → ⊥) (k : ℕ) (R : Reading Interval) (q : R ≡ faulty f) where
-  pub refused : (shadow lmp dispatch available floor factors : List ℤ) → shownPart s r shadow lmp dispatch available floor factors ≡ seenOf k R
-  refused shadow lmp dispatch available floor factors =
-      refuses s (r .fault) f (intervalOf (r .constraints) shadow (r .resources) lmp dispatch available floor factors (r .parameter)) (r .line) (r .next) e h ∙ sym (ap (seenOf k) q)
+-- the answer of a faulty line, and what is to be read, whatever the cells hold
+pub refused : (s : List ℕ) (r : Part) (f : ℕ) → r .fault ≡ f → (f ≡ 0 → ⊥) → (R : Reading Interval) → R ≡ faulty f → (j k : ℕ) (w : Interval) → PartRead j k s r w R
+refused s r f e h R q j k w = record { fails = λ n. q ∙ ap faulty (sym e); whole = λ z. absurd (h (sym e ∙ z)) }
 
 -- a fault has no offset after it
 pub no-offset : (r : Part) (f : ℕ) → r .fault ≡ f → r .next ≡ 0 → (f ≡ 0 → ⊥) → (at k : ℕ) (ls : List Line) → r .next ≡ nextIf (r .fault) at k ls
 no-offset r f e z h at k ls = z ∙ no-next f at k ls h ∙ ap (λ (n : ℕ). nextIf n at k ls) (sym e)
-
--- ---- a part that is read, and what is to be read, of which k cells of factors are seen
--- what is found
-pub record Whole (k : ℕ) (R : Reading Interval) (w : Interval) (line : ℕ) (rest : List Line) : Type 0 where
-  pub v : Interval
-  pub is : R ≡ found v line rest
-  pub same : w ≡ seen k v
-
-seen-faulty : (k f : ℕ) (R : Reading Interval) → seenOf k R ≡ faulty f → R ≡ faulty f
-seen-faulty k f (faulty line) e = e
-seen-faulty k f (found v line rest) e = let z : _≡_ {A = ℕ} 0 1 = cc in absurd (omega arith)
-
-seen-found : (k : ℕ) (R : Reading Interval) (w : Interval) (line : ℕ) (rest : List Line) → seenOf k R ≡ found w line rest → Whole k R w line rest
-seen-found k (faulty f) w line rest e = let z : _≡_ {A = ℕ} 0 1 = cc in absurd (omega arith)
-seen-found k (found v n ls) w line rest e =
-    let a : n ≡ line = cc in
-    let b : ls ≡ rest = cc in
-    record { v = v; is = ap₂ (found v) a b; same = cc }
-
-module _ (s : List ℕ) (r : Part) (k : ℕ) (R : Reading Interval) (w : Interval) (e : reading s (r .fault) w (r .line) (r .next) ≡ seenOf k R) where
-  pub is-faulty : (r .fault ≡ 0 → ⊥) → R ≡ faulty (r .fault)
-  is-faulty h = seen-faulty k (r .fault) R (sym e ∙ refuses s (r .fault) (r .fault) w (r .line) (r .next) refl h)
-
-  pub is-found : r .fault ≡ 0 → Whole k R w (r .line) (lines (drop (r .next) s))
-  is-found z = seen-found k R w (r .line) (lines (drop (r .next) s)) (sym e ∙ ap (λ (f : ℕ). reading s f w (r .line) (r .next)) z)
 
 -- ---- factors stored in k cells are the first k of those stored in 2048
 take-set : (k : ℕ) (a : List ℤ) (i : ℕ) (x : ℤ) → take k (set a i x) ≡ set (take k a) i x
@@ -73,6 +53,58 @@ take-blank (suc k) (suc n) x h = ap (λ (l : List ℤ). x ∷ l) (take-blank k n
 
 pub stored-seen : (k : ℕ) (xs : List Row) → k ≤ 2048 → withFactors (replicate k (pos 0)) xs ≡ take k (withFactors (replicate 2048 (pos 0)) xs)
 stored-seen k xs h = sym (take-stored k (replicate 2048 (pos 0)) xs ∙ ap (λ (l : List ℤ). withFactors l xs) (take-blank k 2048 (pos 0) h))
+
+-- ---- outputs stored in turn: value k of resource r
+flat-at : (k : ℕ) → k < 4 → (os : List Row) (r : ℕ) → cellAt (flatMap (λ row. cell 1 row ∷ cell 2 row ∷ cell 3 row ∷ cell 4 row ∷ []) os) (4 * r + k) ≡ cellAt (map (cell (suc k)) os) r
+unfolding flatMap
+flat-at k h [] r = refl
+flat-at zero h (x ∷ os) zero = refl
+flat-at (suc zero) h (x ∷ os) zero = refl
+flat-at (suc (suc zero)) h (x ∷ os) zero = refl
+flat-at (suc (suc (suc zero))) h (x ∷ os) zero = refl
+flat-at (suc (suc (suc (suc k)))) h (x ∷ os) zero = absurd (omega arith)
+flat-at k h (x ∷ os) (suc r) =
+    let e : 4 * suc r + k ≡ suc (suc (suc (suc (4 * r + k)))) = omega arith in
+    ap (cellAt (cell 1 x ∷ cell 2 x ∷ cell 3 x ∷ cell 4 x ∷ flatMap (λ row. cell 1 row ∷ cell 2 row ∷ cell 3 row ∷ cell 4 row ∷ []) os)) e ∙ flat-at k h os r
+
+output-at : (j : ℕ) (os : List Row) (outputs : List ℤ) → outputs ≡ sets (replicate j (pos 0)) 0 (flatMap (λ row. cell 1 row ∷ cell 2 row ∷ cell 3 row ∷ cell 4 row ∷ []) os)
+    → (k : ℕ) → k < 4 → (r : ℕ) → r < 64 → 4 * r + k < j → cellAt (outputsIn outputs k) r ≡ cellAt (kept 64 (pos 0) (map (cell (suc k)) os)) r
+unfolding kept
+output-at j os outputs e k few r h i =
+    listed-at (λ r. cellAt outputs (4 * r + k)) (pos 0) 64 r h ∙ ap (λ (l : List ℤ). cellAt l (4 * r + k)) e
+    ∙ sets-read j (pos 0) (flatMap (λ row. cell 1 row ∷ cell 2 row ∷ cell 3 row ∷ cell 4 row ∷ []) os) (4 * r + k) i ∙ flat-at k few os r
+    ∙ sym (sets-read 64 (pos 0) (map (cell (suc k)) os) r h)
+
+-- the interval of the tables as they are put, and as they are read
+pub put-seen : (cs os fs : List Row) (j k m n : ℕ) (shadow outputs factors : List ℤ) (p q : ℤ) → m ≡ length cs → shadow ≡ sets (replicate 32 (pos 0)) 0 (map (cell 1) cs) → n ≡ length os
+    → outputs ≡ sets (replicate j (pos 0)) 0 (flatMap (λ row. cell 1 row ∷ cell 2 row ∷ cell 3 row ∷ cell 4 row ∷ []) os) → factors ≡ withFactors (replicate k (pos 0)) fs → k ≤ 2048 → p ≡ q
+    → Seen j k (intervalOver m shadow n outputs factors p) (intervalOf cs os fs q)
+unfolding intervalOf kept
+put-seen cs os fs j k m n shadow outputs factors p q em es en eo ef few ep = record {
+  constraints = em;
+  shadow = es;
+  resources = en;
+  lmp = λ r h i. output-at j os outputs eo 0 (omega arith) r h (omega arith);
+  dispatch = λ r h i. output-at j os outputs eo 1 (omega arith) r h i;
+  available = λ r h i. output-at j os outputs eo 2 (omega arith) r h i;
+  floor = λ r h i. output-at j os outputs eo 3 (omega arith) r h i;
+  factors = ef ∙ stored-seen k fs few;
+  parameter = ep;
+}
+
+-- in an hour of n resources they say the same, where there are cells for these
+pub alike : (n j k : ℕ) (w v : Interval) → min n 64 * 4 ≤ j → min n 64 * 32 ≤ k → Seen j k w v → Alike n w v
+alike n j k w v rooms room s = record {
+  constraints = s .constraints;
+  resources = s .resources;
+  parameter = s .parameter;
+  shadow = λ c h. ap (λ (l : List ℤ). cellAt l c) (s .shadow);
+  lmp = λ r h. s .lmp r (omega arith) (omega arith);
+  dispatch = λ r h. s .dispatch r (omega arith) (omega arith);
+  available = λ r h. s .available r (omega arith) (omega arith);
+  floor = λ r h. s .floor r (omega arith) (omega arith);
+  factor = λ r c h i. ap (λ (l : List ℤ). cellAt l (r * 32 + c)) (s .factors) ∙ getD-take k (v .factors) (r * 32 + c) (pos 0) (omega arith);
+}
 
 -- ---- by the number n that refuses it: k is the one of the rules
 module _ (n k : ℕ) (e : n ≡ k) where

@@ -1,17 +1,22 @@
 -- Laws of reading at an offset of a text: what an answer shows, a line of one value, and the parameter. Assumes nothing.
-use Prim.Native.Nat.{ℕ, zero, suc, _+_, _-_}
+use Prim.Native.Nat.{ℕ, zero, suc, _+_, _-_, _<_}
 use mathlib.Core.Path.{_≡_, refl, sym, ap, _∙_}
 use mathlib.Core.List.{List, [], _∷_}
 use mathlib.Core.Option.{Option, none, some}
 use mathlib.Core.Bool.{Bool, true, false, cond}
 use native.Mathlib.Omega.{arith}
-use lib.ListN.{length, drop}
+use lib.ListN.{length, drop, getD}
 use lib.IntN.{ℤ, pos}
-use Rattle.rules_text.specs.Numbers.{Line, Row, bytes, same, lines, row}
+use Rattle.rules_text.specs.declared.Row as source
+use Rattle.rules_text.specs.Numbers.{Line, Row, bytes, same, lines, magnitude, number, row}
+use Rattle.rules_text.specs.Offsets.{asRow, rowAt}
+use Rattle.rules_text.proofs.RowLaws.{row-in, Held, held}
+use Rattle.text_numbers.specs.Rows.{singleOf}
+use Rattle.text_numbers.specs.declared.rows.One.{One}
 use Rattle.rules_text.specs.Tables.{Reading, faulty, found, taken, due, headed, cell, one, single, ifSuits}
 use Rattle.rules_text.proofs.LineLaws.{line, after, lines-after, next-lines}
 use Rattle.rules_text.proofs.TableLaws.{row-there, due-none, due-some}
-use Rattle.rules_text.proofs.UsedLaws.{Used, used-then, Rises}
+use Rattle.rules_text.proofs.UsedLaws.{Used, Rises}
 use Rattle.rules_parts.specs.Parts.{parameterBy, parameterOf}
 use Rattle.interval_part.specs.Shown.{reading, nextIf}
 
@@ -35,12 +40,6 @@ pub read-used : {A : Type 0} (s : List ℕ) (n at fault : ℕ) (a : A) (line nex
 read-used s n at zero a line next r e h z o = record { up = h a line (lines (drop next s)) (sym e); offset = o }
 read-used s n at (suc fault) a line next r e h z o = absurd (omega arith)
 
--- what is read after lines that are used
-pub read-on : {A : Type 0} {s : List ℕ} {n at n' at' : ℕ} → Used s n at n' at' → (fault : ℕ) (a : A) (line next : ℕ) (r : Reading A) → reading s fault a line next ≡ r → Rises n' r
-    → next ≡ nextIf fault at' (line - n') (lines (drop at' s)) → next ≡ nextIf fault at (line - n) (lines (drop at s))
-read-on {s = s} {n' = n'} {at' = at'} u zero a line next r e h o = used-then u (read-used s n' at' zero a line next r e h refl o) .offset
-read-on u (suc fault) a line next r e h o = o
-
 -- past the line at an offset
 pub past-line : (s : List ℕ) (at q : ℕ) → q ≡ at + length (line (drop at s)) → lines (after (drop at s)) ≡ lines (drop q s)
 past-line s at q e = lines-after (drop at s) ∙ sym (next-lines s at q e)
@@ -56,6 +55,46 @@ module _ (s : List ℕ) (at n : ℕ) where
   value-found x e q eq =
       due-some single n (drop at s) (cell 0 x) (row-there (λ y. true) 0 x (drop at s) (ap (ifSuits (λ y. true)) e)) (ap one e)
       ∙ ap (found (cell 0 x) (n + 1)) (past-line s at q eq)
+
+-- a row has bytes
+row-some : (l : Line) (x : Row) → row 1 l ≡ some x → 0 < length l
+unfolding row number magnitude
+row-some [] x e = let o : _≡_ {A = ℕ} 0 1 = cc in absurd (omega arith)
+row-some (b ∷ l) x e = omega arith
+
+-- the same as its reader answers: the offset after it is 0 where there is none
+module _ (s : List ℕ) (at : ℕ) (r : One) (e : r ≡ singleOf (rowAt s at 1)) where
+  abbrev end : ℕ
+  end = at + length (line (drop at s))
+
+  abbrev read : Option Row
+  read = row 1 (line (drop at s))
+
+  answers : rowAt s at 1 ≡ asRow end read
+  answers = row-in (λ o. o) s at 1 refl
+
+  after-is : r .next ≡ asRow end read .next
+  after-is = ap (λ (w : One). w .next) e ∙ ap (λ (w : source.Row). w .next) answers
+
+  none-by : (o : Option Row) → read ≡ o → asRow end o .next ≡ 0 → read ≡ none
+  none-by none f q = f
+  none-by (some x) f q = absurd (omega (arith, row-some (line (drop at s)) x f))
+
+  pub single-none : r .next ≡ 0 → read ≡ none
+  single-none q = none-by read refl (sym after-is ∙ q)
+
+  ok-by : (o : Option Row) → (asRow end o .next ≡ 0 → ⊥) → asRow end o .ok ≡ true
+  ok-by none q = absurd (q refl)
+  ok-by (some x) q = refl
+
+  pub single-held : (r .next ≡ 0 → ⊥) → Held end read (asRow end read)
+  single-held q = held end read (asRow end read) refl (ok-by read (λ h. q (after-is ∙ h)))
+
+  pub single-value : (q : r .next ≡ 0 → ⊥) → r .a ≡ cell 0 (single-held q .x)
+  single-value q = ap (λ (w : One). w .a) e ∙ ap (λ (w : source.Row). getD (w .v) 0 (pos 0)) answers ∙ single-held q .cells 0 (omega arith)
+
+  pub single-after : (r .next ≡ 0 → ⊥) → r .next ≡ end
+  single-after q = after-is ∙ single-held q .after
 
 -- ---- the parameter: "-" alone, or a line of one value
 abbrev missing : ℕ → List Line → Reading ℤ

@@ -1,13 +1,14 @@
 -- What the code's answers stand for, and what taking an interval's part does.
-use Prim.Native.Nat.{ℕ, zero, suc, _+_, _-_}
+use Prim.Native.Nat.{ℕ, zero, suc, _+_, _-_, _*_, _<_}
 use mathlib.Core.List.{List, []}
+use mathlib.Core.Path.{_≡_}
 use lib.IntN.{ℤ}
-use lib.ListN.{take}
+use lib.ListN.{drop, take}
 use lib.Seq.{sets}
-use Rattle.rules_interval.specs.Intervals.{intervalOf}
+use Rattle.rules_interval.specs.Intervals.{lmpAt, dispatchAt, availableAt, floorAt}
 use Rattle.rules_interval.specs.declared.Interval.{Interval}
 use Rattle.rules_hour.specs.Hours.{callRefusal}
-use Rattle.rules_text.specs.Numbers.{Line}
+use Rattle.rules_text.specs.Numbers.{Line, lines}
 use Rattle.rules_text.specs.Tables.{Reading, faulty, found}
 use Rattle.rules_text.specs.Offsets.{bytesOf}
 use Rattle.rules_state.specs.States.{standingIn, marketIn}
@@ -21,20 +22,31 @@ use Rattle.interval_part.specs.declared.PartTaken.{PartTaken}
 abbrev pub shownValue : List ℕ → Value → Reading ℤ
 shownValue s r = reading s (r .fault) (r .value) (r .line) (r .next)
 
--- a part with the cells of its tables
-abbrev pub shownPart : List ℕ → Part → List ℤ → List ℤ → List ℤ → List ℤ → List ℤ → List ℤ → Reading Interval
-shownPart s r shadow lmp dispatch available floor factors =
-    reading s (r .fault) (intervalOf (r .constraints) shadow (r .resources) lmp dispatch available floor factors (r .parameter)) (r .line) (r .next)
+-- ---- a part whose tables are put into cells
+-- the interval w of j cells of outputs and k of factors is v, as far as there are cells
+pub record Seen (j k : ℕ) (w v : Interval) : Type 0 where
+  pub constraints : w .constraints ≡ v .constraints
+  pub shadow : w .shadow ≡ v .shadow
+  pub resources : w .resources ≡ v .resources
+  pub lmp : (r : ℕ) → r < 64 → 4 * r < j → lmpAt w r ≡ lmpAt v r
+  pub dispatch : (r : ℕ) → r < 64 → 4 * r + 1 < j → dispatchAt w r ≡ dispatchAt v r
+  pub available : (r : ℕ) → r < 64 → 4 * r + 2 < j → availableAt w r ≡ availableAt v r
+  pub floor : (r : ℕ) → r < 64 → 4 * r + 3 < j → floorAt w r ≡ floorAt v r
+  pub factors : w .factors ≡ take k (v .factors)
+  pub parameter : w .parameter ≡ v .parameter
 
--- ---- the interval with the first k cells of its factors
-abbrev pub seen : ℕ → Interval → Interval
-seen k v = intervalOf (v .constraints) (v .shadow) (v .resources) (v .lmp) (v .dispatch) (v .available) (v .floor) (take k (v .factors)) (v .parameter)
+-- what is to be read is found, and w is so much of it
+pub record Whole (j k : ℕ) (due : Reading Interval) (w : Interval) (line : ℕ) (rest : List Line) : Type 0 where
+  pub v : Interval
+  pub is : due ≡ found v line rest
+  pub same : Seen j k w v
 
-abbrev pub seenOf : ℕ → Reading Interval → Reading Interval
-seenOf k (faulty line) = faulty line
-seenOf k (found v last rest) = found (seen k v) last rest
+-- a part with the interval of its tables, and what is to be read: its faulty line, or so much of it
+pub record PartRead (j k : ℕ) (s : List ℕ) (r : Part) (w : Interval) (due : Reading Interval) : Type 0 where
+  pub fails : (r .fault ≡ 0 → ⊥) → due ≡ faulty (r .fault)
+  pub whole : r .fault ≡ 0 → Whole j k due w (r .line) (lines (drop (r .next) s))
 
--- ---- a part that is read so, taken in the hour of the cells `state`
+-- ---- a part that is read, taken in the hour of the cells `state`
 -- the number that refuses an interval, 0 where it is accepted
 abbrev pub refusalIn : List ℤ → Interval → ℕ
 refusalIn state v = callRefusal (marketIn state) (standingIn state) v

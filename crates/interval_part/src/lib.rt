@@ -2,41 +2,49 @@
 // The contracts cite specs/Taken and the definitions of rules_parts, rules_hour and rules_state.
 use curve::outcome_number;
 use factor_table::factors_into;
-use reader::row_of;
 use rules_interval::Interval;
 use rules_state::MARKET_FROM;
 use rules_state::VERDICT_ROOM;
 use rules_text::Found;
 use taking::take_into;
 use text_names::line_is;
+use text_numbers::rows::single_at;
 use text_tables::marks_at;
 use text_tables::outputs_at;
 ghost use mathlib.Core.Path.{_≡_};
 ghost use Prim.Native.Nat.{_+_, _-_, _*_, _≤_, min};
 ghost use lib.ListN.{length, drop, replicate};
 ghost use lib.IntN.{pos};
-ghost use Rattle.rules_interval.specs.Intervals.{intervalOf};
+ghost use Rattle.interval.specs.Over.{intervalOver};
 ghost use Rattle.rules_text.specs.Numbers.{lines};
 ghost use Rattle.rules_text.specs.Tables.{due, single};
 ghost use Rattle.rules_parts.specs.Parts.{parameterOf, readInterval};
-ghost use Rattle.interval_part.specs.Shown.{reading, nextIf};
+ghost use Rattle.interval_part.specs.Shown.{nextIf};
 ghost use mathlib.Core.List.{[]};
 ghost use Rattle.rules_state.specs.States.{marketIn};
 ghost use Rattle.rules_state.specs.Takes.{ifAccepted};
-ghost use Rattle.interval_part.specs.Taken.{shownValue, shownPart, seenOf, takenBy, stateBy, verdictsBy, leftBy};
+ghost use Rattle.interval_part.specs.Taken.{shownValue, PartRead, takenBy, stateBy, verdictsBy, leftBy};
 
-// An hour of fewer resources needs fewer cells for factors: clearing all of them costs more than the rest of a small part.
+// An hour of fewer resources needs fewer cells for outputs and factors: clearing all of them costs more than the rest of a small part.
 const ONE_RESOURCE: u64 = 1;
+
+const ONE_OUTPUTS: usize = 4;
 
 const ONE_FACTORS: usize = 32;
 
 const FEW_RESOURCES: u64 = 8;
 
+const FEW_OUTPUTS: usize = 32;
+
 const FEW_FACTORS: usize = 256;
 
 const HALF_RESOURCES: u64 = 32;
 
+const HALF_OUTPUTS: usize = 128;
+
 const HALF_FACTORS: usize = 1024;
+
+const ALL_OUTPUTS: usize = 256;
 
 // What taking an interval's part answers: the number of its last line, the offset of the next and how many constraints it has; or the number of the refusal and of its line.
 pub struct PartTaken {
@@ -76,9 +84,8 @@ fn value_at(s: &[u8], at: usize, n: usize) -> Value
     ensures { λ r. ⌜ shownValue (now (s .entry)) r ≡ due single n (lines (drop at (now (s .entry)))) ⌝ }
     ensures { λ r. ⌜ r .next ≡ nextIf (r .fault) at (r .line - n) (lines (drop at (now (s .entry)))) ⌝ }
 {
-    let row = row_of(s, at, 1);
-    let v = row.v;
-    if !row.ok {
+    let row = single_at(s, at);
+    if row.next == 0 {
         return Value {
             fault: n + 1,
             value: 0,
@@ -88,7 +95,7 @@ fn value_at(s: &[u8], at: usize, n: usize) -> Value
     }
     Value {
         fault: 0,
-        value: v[0],
+        value: row.a,
         line: n + 1,
         next: row.next,
     }
@@ -125,22 +132,19 @@ fn no_part(fault: usize) -> Part
     }
 }
 
-// The interval's part at an offset before which `line` lines stand, its tables into blank cells. Factors past their cells are not kept.
+// The interval's part at an offset before which `line` lines stand, its tables into blank cells. Outputs and factors past their cells are not kept.
 fn part_at(
     s: &[u8],
     at: usize,
     line: usize,
     shadow: &mut [i64],
-    lmp: &mut [i64],
-    dispatch: &mut [i64],
-    available: &mut [i64],
-    floor: &mut [i64],
+    outputs: &mut [i64],
     factors: &mut [i64],
 ) -> Part
     requires shadow { ⌜ now shadow ≡ replicate 32 (pos 0) ⌝ }
-    requires outputs { ⌜ (now lmp ≡ replicate 64 (pos 0)) × ((now dispatch ≡ replicate 64 (pos 0)) × ((now available ≡ replicate 64 (pos 0)) × (now floor ≡ replicate 64 (pos 0)))) ⌝ }
+    requires outputs { ⌜ now outputs ≡ replicate (length (now outputs)) (pos 0) ⌝ }
     requires factors { ⌜ (now factors ≡ replicate (length (now factors)) (pos 0)) × (length (now factors) ≤ 2048) ⌝ }
-    ensures reading { λ r. ⌜ shownPart (now (s .entry)) r (now (shadow .exit)) (now (lmp .exit)) (now (dispatch .exit)) (now (available .exit)) (now (floor .exit)) (now (factors .exit)) ≡ seenOf (length (now (factors .entry))) (readInterval (min line 65536) (lines (drop at (now (s .entry))))) ⌝ }
+    ensures reading { λ r. ⌜ PartRead (length (now (outputs .entry))) (length (now (factors .entry))) (now (s .entry)) r (intervalOver (r .constraints) (now (shadow .exit)) (r .resources) (now (outputs .exit)) (now (factors .exit)) (r .parameter)) (readInterval (min line 65536) (lines (drop at (now (s .entry))))) ⌝ }
     ensures after { λ r. ⌜ r .next ≡ nextIf (r .fault) at (r .line - min line 65536) (lines (drop at (now (s .entry)))) ⌝ }
 {
     let line = number::at_most(line, MAX_LINES);
@@ -157,10 +161,10 @@ fn part_at(
     ) else {
         return no_part(line + 1);
     };
-    let outputs = outputs_at(s, at, lmp, dispatch, available, floor);
-    let n = outputs.count;
+    let rows = outputs_at(s, at, outputs);
+    let n = rows.count;
     let line = line + 1 + n;
-    let Found::At(at) = line_is(s, outputs.next, b"resource constraint factor\n") else {
+    let Found::At(at) = line_is(s, rows.next, b"resource constraint factor\n") else {
         return no_part(line + 1);
     };
     let table = factors_into(s, at, n, m, factors);
@@ -183,38 +187,26 @@ fn part_at(
     }
 }
 
-// The interval's part at an offset before which `line` lines stand, taken in the hour of the state, with blank cells for the factors of the hour's resources.
+// The interval's part at an offset before which `line` lines stand, taken in the hour of the state, with blank cells for the outputs and factors of the hour's
+// resources.
 fn part_into(
     s: &[u8],
     at: usize,
     line: usize,
+    outputs: &mut [i64],
     factors: &mut [i64],
     state: &mut [i64],
     verdicts: &mut [i64; VERDICT_ROOM],
 ) -> PartTaken
-    requires blank { ⌜ now factors ≡ replicate (length (now factors)) (pos 0) ⌝ }
-    requires room { ⌜ (min (marketIn (now state) .resources) 64 * 32 ≤ length (now factors)) × (length (now factors) ≤ 2048) ⌝ }
+    requires blank { ⌜ (now outputs ≡ replicate (length (now outputs)) (pos 0)) × (now factors ≡ replicate (length (now factors)) (pos 0)) ⌝ }
+    requires room { ⌜ (min (marketIn (now state) .resources) 64 * 4 ≤ length (now outputs)) × ((min (marketIn (now state) .resources) 64 * 32 ≤ length (now factors)) × (length (now factors) ≤ 2048)) ⌝ }
     ensures answer { λ r. ⌜ r ≡ takenBy (now (state .entry)) at (min line 65536) (lines (drop at (now (s .entry)))) (readInterval (min line 65536) (lines (drop at (now (s .entry))))) ⌝ }
     ensures state { λ r. ⌜ now (state .exit) ≡ stateBy (now (state .entry)) (readInterval (min line 65536) (lines (drop at (now (s .entry))))) ⌝ }
     ensures verdicts { λ r. ⌜ now (verdicts .exit) ≡ verdictsBy (now (state .entry)) (now (verdicts .entry)) (readInterval (min line 65536) (lines (drop at (now (s .entry))))) ⌝ }
     ensures rest { λ r. ⌜ ifAccepted (r .number) (lines (drop (r .next) (now (s .entry)))) [] ≡ leftBy (now (state .entry)) (readInterval (min line 65536) (lines (drop at (now (s .entry))))) ⌝ }
 {
     let mut shadow = [0i64; Interval::MAX_CONSTRAINTS];
-    let mut lmp = [0i64; Interval::MAX_RESOURCES];
-    let mut dispatch = [0i64; Interval::MAX_RESOURCES];
-    let mut available = [0i64; Interval::MAX_RESOURCES];
-    let mut floor = [0i64; Interval::MAX_RESOURCES];
-    let part = part_at(
-        s,
-        at,
-        line,
-        &mut shadow,
-        &mut lmp,
-        &mut dispatch,
-        &mut available,
-        &mut floor,
-        factors,
-    );
+    let part = part_at(s, at, line, &mut shadow, outputs, factors);
     let fault = part.fault;
     if fault != 0 {
         return PartTaken {
@@ -229,10 +221,7 @@ fn part_into(
         part.constraints,
         &shadow,
         part.resources,
-        &lmp,
-        &dispatch,
-        &available,
-        &floor,
+        outputs,
         factors,
         part.parameter,
         verdicts,
@@ -270,17 +259,21 @@ pub fn part_taken(
 {
     let n = cells::whole_at(state, MARKET_FROM);
     if n <= ONE_RESOURCE {
+        let mut outputs = [0i64; ONE_OUTPUTS];
         let mut factors = [0i64; ONE_FACTORS];
-        return part_into(s, at, line, &mut factors, state, verdicts);
+        return part_into(s, at, line, &mut outputs, &mut factors, state, verdicts);
     }
     if n <= FEW_RESOURCES {
+        let mut outputs = [0i64; FEW_OUTPUTS];
         let mut factors = [0i64; FEW_FACTORS];
-        return part_into(s, at, line, &mut factors, state, verdicts);
+        return part_into(s, at, line, &mut outputs, &mut factors, state, verdicts);
     }
     if n <= HALF_RESOURCES {
+        let mut outputs = [0i64; HALF_OUTPUTS];
         let mut factors = [0i64; HALF_FACTORS];
-        return part_into(s, at, line, &mut factors, state, verdicts);
+        return part_into(s, at, line, &mut outputs, &mut factors, state, verdicts);
     }
+    let mut outputs = [0i64; ALL_OUTPUTS];
     let mut factors = [0i64; Interval::MAX_FACTORS];
-    part_into(s, at, line, &mut factors, state, verdicts)
+    part_into(s, at, line, &mut outputs, &mut factors, state, verdicts)
 }

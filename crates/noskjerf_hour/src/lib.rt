@@ -50,14 +50,14 @@ pub extern "C" fn noskjerf_open(
 }
 
 // A pass, or an interval, of these numbers.
-fn called(
+fn called<'a>(
     pass: bool,
     state: &mut [i64],
     constraints: usize,
-    shadow: &[i64],
+    shadow: &'a [i64],
     resources: usize,
-    outputs: &[i64],
-    factors: &[i64],
+    outputs: &'a [i64],
+    factors: &'a [i64],
     parameter: i64,
     verdicts: &mut [i64],
 ) -> i64
@@ -71,26 +71,15 @@ fn called(
     if verdicts.len() < rules_state::VERDICT_ROOM {
         return -1;
     }
-    let v = interval_cells::interval_in(
-        constraints,
-        shadow,
-        resources,
-        outputs,
-        factors,
-        parameter,
-    );
     let mut found = taking::none_found();
     let outcome = hour_cells::call_into(
         state,
         pass,
         constraints,
-        &v.shadow,
+        shadow,
         resources,
-        &v.lmp,
-        &v.dispatch,
-        &v.available,
-        &v.floor,
-        &v.factors,
+        outputs,
+        factors,
         parameter,
         &mut found,
     );
@@ -105,13 +94,13 @@ fn called(
 // 32 r + c; numbers past a slice's end count as 0. Answers 0, puts the hour after it into the state and the verdicts into `verdicts`; or answers the number of a
 // refusal, or -1 where the state or `verdicts` has too few numbers, and leaves both as they were.
 #[no_mangle]
-pub extern "C" fn noskjerf_interval(
+pub extern "C" fn noskjerf_interval<'a>(
     state: &mut [i64],
     constraints: usize,
-    shadow: &[i64],
+    shadow: &'a [i64],
     resources: usize,
-    outputs: &[i64],
-    factors: &[i64],
+    outputs: &'a [i64],
+    factors: &'a [i64],
     parameter: i64,
     verdicts: &mut [i64],
 ) -> i64
@@ -135,13 +124,13 @@ pub extern "C" fn noskjerf_interval(
 // Takes a five-minute pass, with what an interval is taken with. Answers 0, puts the quarter hour after it into the state and the verdicts into `verdicts`; or answers
 // the number of a refusal, or -1 where the state or `verdicts` has too few numbers, and leaves both as they were.
 #[no_mangle]
-pub extern "C" fn noskjerf_pass(
+pub extern "C" fn noskjerf_pass<'a>(
     state: &mut [i64],
     constraints: usize,
-    shadow: &[i64],
+    shadow: &'a [i64],
     resources: usize,
-    outputs: &[i64],
-    factors: &[i64],
+    outputs: &'a [i64],
+    factors: &'a [i64],
     parameter: i64,
     verdicts: &mut [i64],
 ) -> i64

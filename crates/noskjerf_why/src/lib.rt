@@ -9,13 +9,13 @@ ghost use Rattle.rules_state.specs.Calls.{whyAnswer, causesAfter};
 // cut, else 0; its component; its competitive price; its floor price, 0 where it isn't cut. Or answers the number of a refusal, 13 to 16, or -1 where the state or
 // `causes` has too few numbers, and leaves `causes` as it was.
 #[no_mangle]
-pub extern "C" fn noskjerf_why(
-    state: &[i64],
+pub extern "C" fn noskjerf_why<'a>(
+    state: &'a [i64],
     constraints: usize,
-    shadow: &[i64],
+    shadow: &'a [i64],
     resources: usize,
-    outputs: &[i64],
-    factors: &[i64],
+    outputs: &'a [i64],
+    factors: &'a [i64],
     parameter: i64,
     causes: &mut [i64],
 ) -> i64
@@ -28,26 +28,14 @@ pub extern "C" fn noskjerf_why(
     if causes.len() < rules_state::CAUSE_ROOM {
         return -1;
     }
-    let v = interval_cells::interval_in(
+    let outcome = cutting::causes_into(
+        state,
         constraints,
         shadow,
         resources,
         outputs,
         factors,
         parameter,
-    );
-    let added = v.parameter;
-    let outcome = cutting::causes_into(
-        state,
-        v.constraints,
-        &v.shadow,
-        v.resources,
-        &v.lmp,
-        &v.dispatch,
-        &v.available,
-        &v.floor,
-        &v.factors,
-        added,
         causes,
     );
     if let Outcome::Refused(refusal) = outcome {

@@ -1,6 +1,6 @@
 -- Laws of the parts of a block. Assumes nothing.
 use Prim.Native.Nat.{ℕ, zero, suc, _+_, _*_, _-_, _≤_, _<_}
-use mathlib.Core.Path.{_≡_, refl, ap, _∙_}
+use mathlib.Core.Path.{_≡_, refl, ap, subst, _∙_}
 use mathlib.Core.List.{List}
 use native.Mathlib.Omega.{arith}
 use borrow.Author.Tests.{leb-true}
@@ -20,11 +20,13 @@ use Rattle.rules_cost.specs.Costs.{costRefusal, costCurve}
 use Rattle.rules_cost.specs.declared.Costs.{Costs}
 use Rattle.rules_opening.specs.Resources.{sourceRefusal, defaultBy}
 use Rattle.rules_opening.specs.declared.Source.the-variants.{Pack}
-use Rattle.rules_library.specs.Slices.{cellAt, rawBid}
-use Rattle.cost.specs.Cells.{inCells}
-use Rattle.cost.specs.declared.DefaultCells.{DefaultCells}
+use Rattle.rules_library.specs.Slices.{cellAt, rawBid, costsIn}
 use Rattle.rules_state.specs.Layout.{blockRoom}
 use Rattle.rules_state.specs.Openings.{blockOf, sourceOf, rawFrom, resourceIn}
+use Rattle.rules_state.specs.States.{curveCells}
+use Rattle.rules_state.specs.Takes.{ifAccepted}
+use Rattle.cost.specs.Cells.{endsBy}
+use Rattle.cost.specs.declared.DefaultEnds.{DefaultEnds}
 
 -- the part of a slice from an offset on
 pub tail : (l : List ℤ) (n : ℕ) → take (length l - n) (drop n l) ≡ drop n l
@@ -55,6 +57,10 @@ pub refused-blank : (n : ℕ) (c : Curve) → 0 < n → unlessRefused n c ≡ bl
 refused-blank zero c h = absurd (omega arith)
 refused-blank (suc n) c h = refl
 
+-- what is made of a default curve with refusal n, or of none: its outcome, where it starts and ends, and its cells put over others
+abbrev pub Made : ℕ → Curve → DefaultEnds → List ℤ → List ℤ → Type 0
+Made n d ends cells before = (outcomeNumber (ends .outcome) ≡ n) × ((ends ≡ endsBy (ends .outcome) (unlessRefused n d)) × (cells ≡ ifAccepted n (curveCells d) before))
+
 -- ---- the parts of its resource
 module _ (b : List ℤ) where
   pub bid-in : rawFrom b 1 ≡ resourceIn b .bid
@@ -69,20 +75,23 @@ module _ (b : List ℤ) where
   unfolding resourceIn
   pack-by e f g = rw (e, f, g)
 
+  pub costs-by : {n : ℕ} {points charges : List ℤ} → n ≡ natOf (cellAt b 26) → points ≡ drop 27 b → charges ≡ drop 49 b → costsIn n points charges ≡ resourceIn b .costs
+  unfolding resourceIn
+  costs-by e f g = rw (e, f, g)
+
   -- a bid that is taken has at most eleven steps
   pub bid-few : (month : ℕ) → bidRefusal month (resourceIn b .bid) ≡ 0 → natOf (cellAt b 2) ≤ mostSteps
   unfolding resourceIn
   bid-few month e = omega (arith, curve-few mostBidSteps lowestBid (highestBid month) (rawFrom b 1) e)
 
-  module _ (x : DefaultCells) where
-    pub by-costs : (d : Costs) → cellAt b 25 ≡ pos 0 → d ≡ resourceIn b .costs → outcomeNumber (x .outcome) ≡ costRefusal d → x ≡ inCells (x .outcome) (unlessRefused (costRefusal d) (costCurve d))
-        → (outcomeNumber (x .outcome) ≡ sourceRefusal (resourceIn b .source) (resourceIn b))
-        × (x ≡ inCells (x .outcome) (unlessRefused (sourceRefusal (resourceIn b .source) (resourceIn b)) (defaultBy (resourceIn b .source) (resourceIn b))))
+  -- its default curve, from its costs or from its pack
+  module _ (ends : DefaultEnds) (cells before : List ℤ) where
+    pub by-costs : (d : Costs) → cellAt b 25 ≡ pos 0 → d ≡ resourceIn b .costs → Made (costRefusal d) (costCurve d) ends cells before
+        → Made (sourceRefusal (resourceIn b .source) (resourceIn b)) (defaultBy (resourceIn b .source) (resourceIn b)) ends cells before
     unfolding resourceIn
-    by-costs d e f n c = rw e (n ∙ ap costRefusal f, c ∙ ap (λ (y : Costs). inCells (x .outcome) (unlessRefused (costRefusal y) (costCurve y))) f)
+    by-costs d e f m = rw e (subst (λ (y : Costs). Made (costRefusal y) (costCurve y) ends cells before) f m)
 
-    pub by-pack : (d : RawCurve) → (cellAt b 25 ≡ pos 0 → ⊥) → d ≡ resourceIn b .pack → outcomeNumber (x .outcome) ≡ defaultRefusal d → x ≡ inCells (x .outcome) (unlessRefused (defaultRefusal d) (curveOf d))
-        → (outcomeNumber (x .outcome) ≡ sourceRefusal (resourceIn b .source) (resourceIn b))
-        × (x ≡ inCells (x .outcome) (unlessRefused (sourceRefusal (resourceIn b .source) (resourceIn b)) (defaultBy (resourceIn b .source) (resourceIn b))))
+    pub by-pack : (d : RawCurve) → (cellAt b 25 ≡ pos 0 → ⊥) → d ≡ resourceIn b .pack → Made (defaultRefusal d) (curveOf d) ends cells before
+        → Made (sourceRefusal (resourceIn b .source) (resourceIn b)) (defaultBy (resourceIn b .source) (resourceIn b)) ends cells before
     unfolding resourceIn
-    by-pack d e f n c = rw (pack-number (cellAt b 25) e) (n ∙ ap defaultRefusal f, c ∙ ap (λ (y : RawCurve). inCells (x .outcome) (unlessRefused (defaultRefusal y) (curveOf y))) f)
+    by-pack d e f m = rw (pack-number (cellAt b 25) e) (subst (λ (y : RawCurve). Made (defaultRefusal y) (curveOf y) ends cells before) f m)

@@ -9,10 +9,9 @@ use lib.Seq.{sets}
 use Rattle.rules_curve.specs.Curves.{mostSteps}
 use Rattle.rules_curve.specs.declared.Curve.{Curve}
 use Rattle.rules_path.specs.declared.Market.{Market}
-use Rattle.rules_opening.specs.declared.Row.{Row}
 use Rattle.rules_text.proofs.ListLaws.{sets-append}
-use Rattle.rules_state.specs.Layout.{mostResources, mostPortfolios, marketFrom, curveRoom, rowRoom}
-use Rattle.rules_state.specs.States.{cellOf, marketCells, curveCells, rowCells}
+use Rattle.rules_state.specs.Layout.{mostResources, mostPortfolios, marketFrom, curveRoom}
+use Rattle.rules_state.specs.States.{cellOf, marketCells, curveCells}
 
 -- the ends and the prices of a curve as cells
 abbrev pub endsOf : Curve → List ℤ
@@ -32,17 +31,10 @@ module _ (c : Curve) (eleven : length (c .steps) ≡ mostSteps) where
   unfolding curveCells
   curve-length = let e = ends-length in let p = prices-length in let z = length-append (endsOf c) (pricesOf c) in omega arith
 
--- the bid and the default curve of a row, put one after the other
-module _ (x : Row) (bid : length (curveCells (x .bid)) ≡ curveRoom) (default : length (curveCells (x .default)) ≡ curveRoom) where
-  pub row-length : length (rowCells x) ≡ rowRoom
-  unfolding rowCells
-  row-length = let z = length-append (curveCells (x .bid)) (curveCells (x .default)) in omega arith
-
-  pub row-put : (s first out : List ℤ) (at : ℕ) → first ≡ sets s at (curveCells (x .bid)) → out ≡ sets first (at + curveRoom) (curveCells (x .default)) → out ≡ sets s at (rowCells x)
-  unfolding rowCells
-  row-put s first out at e f =
-      f ∙ ap (λ (l : List ℤ). sets l (at + curveRoom) (curveCells (x .default))) e ∙ ap (λ (i : ℕ). sets (sets s at (curveCells (x .bid))) (at + i) (curveCells (x .default))) (sym bid)
-      ∙ sym (sets-append s at (curveCells (x .bid)) (curveCells (x .default)))
+-- the cells of a curve, and others put after them
+pub cells-after : (s first out : List ℤ) (at : ℕ) (a b : List ℤ) → length a ≡ curveRoom → first ≡ sets s at a → out ≡ sets first (at + curveRoom) b → out ≡ sets s at (a ++ b)
+cells-after s first out at a b n e f =
+    f ∙ ap (λ (l : List ℤ). sets l (at + curveRoom) b) e ∙ ap (λ (i : ℕ). sets (sets s at a) (at + i) b) (sym n) ∙ sym (sets-append s at a b)
 
 -- ---- a market
 pub market-length : (m : Market) → length (m .portfolio) ≡ mostResources → length (m .seller) ≡ mostPortfolios → length (marketCells m) ≡ 1 + mostResources + mostPortfolios

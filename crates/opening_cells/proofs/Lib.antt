@@ -6,3 +6,4 @@ pub mod CellLaws
 pub mod StepLaws
 pub mod IntoLaws
 pub mod CurveLaws
+pub mod RowLaws

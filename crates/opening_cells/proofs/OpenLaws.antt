@@ -1,5 +1,4 @@
 -- Laws of an opening in numbers: its checks and its market read from the numbers themselves, and the rows put so far. Assumes nothing.
-use mathlib.Core.Bool.{Bool, true, false, _&&_}
 use mathlib.Core.List.{List, [], _∷_, _++_, map, flatMap, append-assoc, append-nil}
 use mathlib.Core.Logic.{⊎-elim}
 use mathlib.Core.Path.{_≡_, refl, sym, ap, ap₂, _∙_}
@@ -8,12 +7,12 @@ use native.Mathlib.Nat.{add-zero}
 use native.Mathlib.Numerals.{add-one}
 use native.Mathlib.Omega.{arith}
 use lib.IntN.{ℤ, pos}
-use lib.ListN.{length, set, replicate, getD, length-append, length-map, length-replicate}
+use lib.ListN.{length, set, replicate, length-append, length-map}
 use lib.Seq.{sets}
 use Rattle.rules_number.specs.Order.{natOf}
 use Rattle.rules_number.specs.Over.{allTo, listed, padded}
 use Rattle.rules_number.proofs.OverLaws.{all-same, last-or-before, listed-at, listed-length, listed-same, padded-length}
-use Rattle.rules_curve.specs.Refusals.{_then_, eachTo}
+use Rattle.rules_curve.specs.Refusals.{eachTo}
 use Rattle.rules_interval.specs.Intervals.{cell}
 use Rattle.rules_path.specs.declared.Market.{Market}
 use Rattle.rules_opening.specs.Openings.{noResource, resourceAt, sellerAt, isMark, isKnown, sellersGood, ownersGood, marketOf}
@@ -29,6 +28,7 @@ use Rattle.rules_state.specs.OpenedInto.{openTo}
 use Rattle.rules_state.specs.States.{rowFrom, cellOf, floorsCells, standingCells, quarterCells, marketCells, rowCells}
 use Rattle.rules_state.specs.Takes.{ifAccepted}
 use Rattle.opening_cells.proofs.CurveLaws.{market-put}
+use Rattle.opening_cells.proofs.RunLaws.{over-front}
 use Rattle.opening.proofs.OpeningLaws.{each-stops}
 
 -- ---- a list and its padding, as cells
@@ -57,14 +57,33 @@ padded-cells g n room =
     map-append cellOf (listed g n) (replicate (room - length (listed g n)) 0)
     ∙ ap₂ (λ (a b : List ℤ). a ++ b) (map-listed cellOf g n) (map-blank cellOf 0 (room - length (listed g n)) ∙ ap (λ (i : ℕ). listed (λ (k : ℕ). pos 0) (room - i)) (listed-length g n))
 
--- numbers put one after the other, and zeros after them
-pub padded-put : (s mid out : List ℤ) (at : ℕ) (g : ℕ → ℕ) (n room : ℕ) → mid ≡ sets s at (listed (λ k. cellOf (g k)) n) → out ≡ sets mid (at + n) (listed (λ k. pos 0) (room - n))
-    → out ≡ sets s at (map cellOf (padded room 0 (listed g n)))
-padded-put s mid out at g n room e f =
+-- ---- zeros, and numbers put over a front of them
+abbrev zeros : ℕ → List ℤ
+zeros n = listed (λ k. pos 0) n
+
+zeros-more : (n m : ℕ) → zeros (n + m) ≡ zeros n ++ zeros m
+unfolding listed
+zeros-more n zero = let e : n + 0 ≡ n = omega arith in ap zeros e ∙ sym (append-nil (zeros n))
+zeros-more n (suc m) =
+    let e : n + suc m ≡ suc (n + m) = omega arith in
+    ap zeros e ∙ ap (λ (l : List ℤ). l ++ (pos 0 ∷ [])) (zeros-more n m) ∙ append-assoc (zeros n) (zeros m) (pos 0 ∷ [])
+
+-- a run of so many stores, and zeros after it
+then-zeros : (s : List ℤ) (at : ℕ) (a : List ℤ) (n m : ℕ) → length a ≡ n → sets s at (a ++ zeros m) ≡ sets (sets s at a) (at + n) (zeros m)
+then-zeros s at a n m e = sets-append s at a (zeros m) ∙ ap (λ (i : ℕ). sets (sets s at a) (at + i) (zeros m)) e
+
+-- numbers put over a front of zeros are padded as far as there is room, and zeros are left past it
+padded-front : (s mid out : List ℤ) (at : ℕ) (g : ℕ → ℕ) (n room m : ℕ) → n ≤ room → mid ≡ sets s at (zeros (room + m)) → out ≡ sets mid at (listed (λ k. cellOf (g k)) n)
+    → out ≡ sets (sets s at (map cellOf (padded room 0 (listed g n)))) (at + room) (zeros m)
+padded-front s mid out at g n room m h e f =
     let put = listed (λ k. cellOf (g k)) n in
-    let zeros = listed (λ (k : ℕ). pos 0) (room - n) in
-    f ∙ ap (λ (l : List ℤ). sets l (at + n) zeros) e ∙ ap (λ (i : ℕ). sets (sets s at put) (at + i) zeros) (sym (listed-length (λ k. cellOf (g k)) n)) ∙ sym (sets-append s at put zeros)
-    ∙ ap (λ (l : List ℤ). sets s at l) (sym (padded-cells g n room))
+    let all : room + m ≡ n + (room - n + m) = omega arith in
+    let whole = map cellOf (padded room 0 (listed g n)) in
+    let long : length whole ≡ room = simp length-map (padded-length room 0 (listed g n) (omega (arith, listed-length g n))) in
+    f ∙ ap (λ (l : List ℤ). sets l at put) (e ∙ ap (λ (l : List ℤ). sets s at l) (ap zeros all ∙ zeros-more n (room - n + m)))
+    ∙ over-front s at (zeros n) (zeros (room - n + m)) put (listed-length (λ (k : ℕ). pos 0) n ∙ sym (listed-length (λ k. cellOf (g k)) n))
+    ∙ ap (λ (l : List ℤ). sets s at l) (ap (λ (l : List ℤ). put ++ l) (zeros-more (room - n) m) ∙ sym (append-assoc put (zeros (room - n)) (zeros m)) ∙ ap (λ (l : List ℤ). l ++ zeros m) (sym (padded-cells g n room)))
+    ∙ then-zeros s at whole room m long
 
 -- ---- a fresh standing and a fresh quarter hour are zeros
 pub fresh-zeros : standingCells freshStanding ++ quarterCells freshQuarter ≡ listed (λ k. pos 0) marketFrom
@@ -129,28 +148,31 @@ module _ (month : ℤ) (portfolios : ℕ) (sellers : List ℤ) (resources : ℕ)
   any-month = refl
 
 -- zeros, and the market after them
-fresh-put : (m : Market) (s cleared out : List ℤ) → cleared ≡ sets s 0 (listed (λ k. pos 0) marketFrom) → out ≡ sets cleared marketFrom (marketCells m)
-    → out ≡ sets s 0 (standingCells freshStanding ++ quarterCells freshQuarter ++ marketCells m)
+fresh-put : (m : Market) (s out : List ℤ) → out ≡ sets (sets s 0 (zeros marketFrom)) marketFrom (marketCells m) → out ≡ sets s 0 (standingCells freshStanding ++ quarterCells freshQuarter ++ marketCells m)
 unfolding listed
-fresh-put m s cleared out e f =
-    let zeros = listed (λ (k : ℕ). pos 0) marketFrom in
-    f ∙ ap (λ (l : List ℤ). sets l marketFrom (marketCells m)) e ∙ ap (λ (i : ℕ). sets (sets s 0 zeros) i (marketCells m)) (sym (listed-length (λ (k : ℕ). pos 0) marketFrom))
-    ∙ sym (sets-append s 0 zeros (marketCells m)) ∙ ap (λ (l : List ℤ). sets s 0 (l ++ marketCells m)) (sym fresh-zeros)
+fresh-put m s out e =
+    e ∙ ap (λ (i : ℕ). sets (sets s 0 (zeros marketFrom)) i (marketCells m)) (sym (listed-length (λ (k : ℕ). pos 0) marketFrom))
+    ∙ sym (sets-append s 0 (zeros marketFrom) (marketCells m)) ∙ ap (λ (l : List ℤ). sets s 0 (l ++ marketCells m)) (sym fresh-zeros)
 
--- zeros, the number of resources, the portfolios and then the sellers
+-- zeros, and over them the number of resources, the portfolios and then the sellers
 module _ (month : ℤ) (portfolios : ℕ) (sellers : List ℤ) (resources : ℕ) (blocks : List ℤ) (many : resources ≤ mostResources) (few : portfolios ≤ mostPortfolios) where
-  pub fresh-made : (s cleared counted owned out : List ℤ) → cleared ≡ sets s 0 (listed (λ k. pos 0) marketFrom) → counted ≡ set cleared marketFrom (cellOf resources)
-      → owned ≡ sets counted (marketFrom + 1) (map cellOf (padded mostResources 0 (listed (λ k. natOf (cellAt blocks (blockRoom * k))) resources)))
-      → out ≡ sets owned (marketFrom + 1 + mostResources) (map cellOf (padded mostPortfolios 0 (listed (λ k. natOf (cellAt sellers (1 * k))) portfolios)))
+  pub fresh-made : (s cleared counted owned out : List ℤ) → cleared ≡ sets s 0 (zeros rowsFrom) → counted ≡ set cleared marketFrom (cellOf resources)
+      → owned ≡ sets counted (marketFrom + 1) (listed (λ k. cellOf (natOf (cellAt blocks (blockRoom * k)))) resources)
+      → out ≡ sets owned (marketFrom + 1 + mostResources) (listed (λ k. cellOf (natOf (cellAt sellers (1 * k)))) portfolios)
       → out ≡ sets s 0 (standingCells freshStanding ++ quarterCells freshQuarter ++ marketCells (marketOf (openingIn month portfolios sellers resources blocks)))
+  unfolding listed padded
   fresh-made s cleared counted owned out a b c d =
       let m = marketOf (openingIn month portfolios sellers resources blocks) in
-      let b' : counted ≡ set cleared marketFrom (cellOf (m .resources)) = b ∙ ap (λ (n : ℕ). set cleared marketFrom (cellOf n)) (sym (count-is month portfolios sellers resources blocks)) in
-      let c' : owned ≡ sets counted (marketFrom + 1) (map cellOf (m .portfolio)) =
-      c ∙ ap (λ (l : List ℕ). sets counted (marketFrom + 1) (map cellOf l)) (portfolios-are month portfolios sellers resources blocks many) in
-      let d' : out ≡ sets owned (marketFrom + 1 + mostResources) (map cellOf (m .seller)) =
-      d ∙ ap (λ (l : List ℕ). sets owned (marketFrom + 1 + mostResources) (map cellOf l)) (marks-are month portfolios sellers resources blocks few) in
-      fresh-put m s cleared out a (market-put m cleared counted owned out (resources-room month portfolios sellers resources blocks many) b' c' d')
+      let fresh = sets s 0 (zeros marketFrom) in
+      let a' : cleared ≡ sets fresh marketFrom (zeros (1 + (mostResources + mostPortfolios))) =
+      a ∙ ap (λ (l : List ℤ). sets s 0 l) (zeros-more marketFrom (1 + (mostResources + mostPortfolios))) ∙ then-zeros s 0 (zeros marketFrom) marketFrom (1 + (mostResources + mostPortfolios)) (listed-length (λ (k : ℕ). pos 0) marketFrom) in
+      let b' = padded-front fresh cleared counted marketFrom (λ k. resources) 1 1 (mostResources + mostPortfolios) (omega arith) a' b in
+      let c' = padded-front _ counted owned (marketFrom + 1) (λ k. natOf (cellAt blocks (blockRoom * k))) resources mostResources mostPortfolios many b' c in
+      let d' = padded-front _ owned out (marketFrom + 1 + mostResources) (λ k. natOf (cellAt sellers (1 * k))) portfolios mostPortfolios 0 few c' d in
+      fresh-put m s out (market-put m fresh _ _ out (resources-room month portfolios sellers resources blocks many) refl refl (d'
+      ∙ ap₂ (λ (o k : List ℕ). sets (sets (set fresh marketFrom (cellOf resources)) (marketFrom + 1) (map cellOf o)) (marketFrom + 1 + mostResources) (map cellOf k))
+      (portfolios-are month portfolios sellers resources blocks many) (marks-are month portfolios sellers resources blocks few)
+      ∙ ap (λ (n : ℕ). sets (sets (set fresh marketFrom (cellOf n)) (marketFrom + 1) (map cellOf (m .portfolio))) (marketFrom + 1 + mostResources) (map cellOf (m .seller))) (sym (count-is month portfolios sellers resources blocks))))
 
 -- ---- how many come before the first refused one
 pub skipped : {A : Type 0} (n : ℕ) (x y : A) → 0 < n → ifAccepted n x y ≡ y

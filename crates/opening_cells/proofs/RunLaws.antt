@@ -1,12 +1,12 @@
 -- Laws of numbers put in turn, each by its number. Assumes nothing.
-use mathlib.Core.List.{List, [], _∷_, _++_, map}
+use mathlib.Core.List.{List, [], _∷_, _++_}
 use mathlib.Core.Logic.{⊎-elim}
 use mathlib.Core.Path.{_≡_, refl, sym, ap, _∙_}
-use Prim.Native.Nat.{ℕ, zero, suc, _+_, _-_, _≤_, min as least}
+use Prim.Native.Nat.{ℕ, zero, suc, _+_, _-_, _≤_, _<_, min as least}
 use native.Mathlib.Numerals.{add-one}
 use native.Mathlib.Omega.{arith}
-use lib.ListN.{length, set, replicate}
-use lib.Seq.{sets, set-out, length-sets}
+use lib.ListN.{length, set}
+use lib.Seq.{sets, set-out, set-set, set-comm, length-sets}
 use Rattle.rules_number.specs.Over.{listed}
 use Rattle.rules_number.proofs.OverLaws.{le-or-lt, listed-length}
 use Rattle.rules_text.proofs.ListLaws.{sets-append}
@@ -32,3 +32,18 @@ module _ {A : Type 0} (l : List A) (at : ℕ) (f : ℕ → A) where
   pub listed-least : (n k : ℕ) → k ≡ least n (length l - at) → at ≤ length l → sets l at (listed f k) ≡ sets l at (listed f n)
   listed-least n k e h =
       ⊎-elim (λ p. let q : k ≡ n = omega arith in rw q) (λ p. listed-full n k (omega arith) (omega arith)) (le-or-lt n (length l - at))
+
+module _ {A : Type 0} where
+  -- a store before a run of stores may come first
+  set-first : (l : List A) (i : ℕ) (a : List A) (j : ℕ) (x : A) → j < i → set (sets l i a) j x ≡ sets (set l j x) i a
+  set-first l i [] j x h = refl
+  set-first l i (y ∷ a) j x h = set-first (set l i y) (suc i) a j x (omega arith) ∙ ap (λ (m : List A). sets m (suc i) a) (set-comm l i j y x (λ e. omega arith))
+
+  -- a run put over the front of another
+  pub over-front : (l : List A) (at : ℕ) (a b c : List A) → length a ≡ length c → sets (sets l at (a ++ b)) at c ≡ sets l at (c ++ b)
+  over-front l at [] b [] e = refl
+  over-front l at [] b (y ∷ c) e = absurd (omega arith)
+  over-front l at (x ∷ a) b [] e = absurd (omega arith)
+  over-front l at (x ∷ a) b (y ∷ c) e =
+      ap (λ (m : List A). sets m (suc at) c) (set-first (set l at x) (suc at) (a ++ b) at y (omega arith)) ∙ over-front (set (set l at x) at y) (suc at) a b c (omega arith)
+      ∙ ap (λ (m : List A). sets m (suc at) (c ++ b)) (set-set l at x y)

@@ -20,6 +20,7 @@ use Rattle.rules_library.specs.Slices.{cellAt, rawStepAt, rawBid}
 use Rattle.rules_state.specs.Layout.{curveRoom}
 use Rattle.rules_state.specs.States.{cellOf, curveCells}
 use Rattle.cost.proofs.CellLaws.{curveFrom, step-put}
+use Rattle.opening_cells.proofs.CurveLaws.{curve-length}
 use Rattle.opening_cells.proofs.OpenLaws.{map-listed}
 
 module _ (start : ℤ) (n : ℕ) (steps : List ℤ) (few : n ≤ mostSteps) where
@@ -59,6 +60,9 @@ module _ (start : ℤ) (n : ℕ) (steps : List ℤ) (few : n ≤ mostSteps) wher
   pub eleven : length (curveOf (rawBid start n steps) .steps) ≡ mostSteps
   unfolding curveOf
   eleven = padded-length mostSteps blankStep (map stepOf (rawSteps (rawBid start n steps))) (omega (arith, ap length taken-steps, listed-length stepAt n))
+
+  pub curve-full : length (curveCells (curveOf (rawBid start n steps))) ≡ curveRoom
+  curve-full = curve-length (curveOf (rawBid start n steps)) eleven
 
   -- ---- where it ends
   pub ends-none : n ≡ 0 → natOf start ≡ endOf (natOf start) (stepsOf (curveOf (rawBid start n steps)))

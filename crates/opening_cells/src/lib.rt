@@ -1,15 +1,13 @@
 // What an hour is opened from, read from lent slices of numbers: a block for each resource, and a number past a slice's end counts as 0; and an hour opened from
 // them into its cells. The contracts cite the definitions of rules_state.
-use cost::DefaultCells;
-use rules_cost::Costs;
+use cost::DefaultEnds;
 use rules_curve::Curve;
 use rules_curve::Outcome;
 use rules_curve::Refusal;
 use rules_interval::Interval;
-use rules_path::Market;
 ghost use mathlib.Core.Bool.{true, _&&_};
 ghost use lib.Dec.{leb};
-ghost use mathlib.Core.List.{_++_, map, flatMap};
+ghost use mathlib.Core.List.{_++_, flatMap};
 ghost use mathlib.Core.Path.{_≡_};
 ghost use Prim.Native.Nat.{_+_, _-_, _*_, _≤_, _<_};
 ghost use lib.IntN.{pos};
@@ -17,12 +15,12 @@ ghost use lib.ListN.{length};
 ghost use lib.Seq.{sets};
 ghost use lib.Signed.{leZ};
 ghost use Rattle.rules_number.specs.Order.{natOf};
-ghost use Rattle.rules_number.specs.Over.{allTo, listed, padded};
-ghost use Rattle.rules_curve.specs.Curves.{mostSteps, stepsOf, endOf, edgesGood, pricesGood, curveOf, curveRefusal, bidRefusal, defaultRefusal, checkedDefault, unlessRefused};
-ghost use Rattle.cost.specs.Cells.{inCells};
-ghost use Rattle.rules_curve.specs.Refusals.{outcomeNumber, eachTo};
+ghost use Rattle.rules_number.specs.Over.{allTo, listed};
+ghost use Rattle.rules_curve.specs.Curves.{mostSteps, stepsOf, endOf, edgesGood, pricesGood, curveOf, curveRefusal, bidRefusal, defaultRefusal, checkedDefault};
+ghost use Rattle.cost.specs.Cells.{endsBy};
+ghost use Rattle.rules_curve.specs.Refusals.{outcomeNumber, unless, _then_, eachTo};
 ghost use Rattle.rules_opening.specs.Openings.{isKnown, openingRefusal, marketOf};
-ghost use Rattle.rules_opening.specs.Resources.{sourceRefusal, defaultBy, resourceRefusal, rowOf};
+ghost use Rattle.rules_opening.specs.Resources.{resourceRefusal, rowOf};
 ghost use Rattle.rules_hour.specs.Hours.{freshStanding};
 ghost use Rattle.rules_pass.specs.Passes.{freshQuarter};
 ghost use Rattle.rules_library.specs.Slices.{cellAt, rawBid};
@@ -40,18 +38,6 @@ fn block_of(blocks: &[i64], r: usize) -> [i64; rules_state::BLOCK_ROOM]
     let mut block = [0i64; rules_state::BLOCK_ROOM];
     cell_copies::fill(&mut block, blocks, rules_state::BLOCK_ROOM * r);
     block
-}
-
-// The costs of a block.
-fn costs_of(block: &[i64]) -> Costs
-    requires { ⌜ length (now block) ≡ blockRoom ⌝ }
-    ensures { λ x. ⌜ x ≡ resourceIn (now (block .entry)) .costs ⌝ }
-{
-    slices::costs_in(
-        cells::whole_at(block, 26) as usize,
-        &block[27..],
-        &block[49..],
-    )
 }
 
 // Whether the portfolio of each of the first n resources is known: else 10.
@@ -102,16 +88,7 @@ fn put_each(state: &mut [i64], at: usize, numbers: &[i64], width: usize, n: usiz
     }
 }
 
-// The same, and zeros as far as there is room.
-fn put_padded(state: &mut [i64], at: usize, numbers: &[i64], width: usize, n: usize, room: usize)
-    requires { ⌜ (at + room ≤ stateRoom) × ((width ≤ blockRoom) × ((n ≤ room) × (room ≤ mostResources))) ⌝ }
-    ensures { λ x. ⌜ now (state .exit) ≡ sets (now (state .entry)) at (map cellOf (padded room 0 (listed (λ k. natOf (cellAt (now (numbers .entry)) (width * k))) n))) ⌝ }
-{
-    put_each(state, at, numbers, width, n);
-    clear(state, at + n, room - n);
-}
-
-// Puts a fresh standing, a fresh quarter hour, and who owns what.
+// Puts a fresh standing, a fresh quarter hour, and who owns what: zeros first, and over them what is known.
 fn put_fresh(
     portfolios: usize,
     sellers: &[i64],
@@ -122,23 +99,21 @@ fn put_fresh(
     requires { ⌜ (portfolios ≤ mostPortfolios) × (resources ≤ mostResources) ⌝ }
     ensures { λ x. ⌜ now (state .exit) ≡ sets (now (state .entry)) 0 (standingCells freshStanding ++ quarterCells freshQuarter ++ marketCells (marketOf (openingIn (pos 0) portfolios (now (sellers .entry)) resources (now (blocks .entry))))) ⌝ }
 {
-    clear(state, 0, rules_state::MARKET_FROM);
+    clear(state, 0, rules_state::ROWS_FROM);
     cells::put_whole(state, rules_state::MARKET_FROM, resources as u64);
-    put_padded(
+    put_each(
         state,
         rules_state::MARKET_FROM + 1,
         blocks,
         rules_state::BLOCK_ROOM,
         resources,
-        Interval::MAX_RESOURCES,
     );
-    put_padded(
+    put_each(
         state,
         rules_state::MARKET_FROM + 1 + Interval::MAX_RESOURCES,
         sellers,
         1,
         portfolios,
-        Market::MAX_PORTFOLIOS,
     );
 }
 
@@ -255,11 +230,17 @@ fn curve_of(start: i64, n: usize, steps: &[i64]) -> [i64; rules_state::CURVE_ROO
     curve
 }
 
-// The default curve of a pack with these numbers, or the lowest of refusals 1 to 3 that applies.
-fn pack_in(start: i64, n: usize, steps: &[i64]) -> DefaultCells
+// Puts the default curve of a pack with these numbers, or answers the lowest of refusals 1 to 3 that applies.
+fn pack_in(
+    start: i64,
+    n: usize,
+    steps: &[i64],
+    cells: &mut [i64; rules_state::CURVE_ROOM],
+) -> DefaultEnds
     requires { ⌜ 2 * mostSteps ≤ length (now steps) ⌝ }
     ensures number { λ x. ⌜ outcomeNumber (x .outcome) ≡ defaultRefusal (rawBid start n (now (steps .entry))) ⌝ }
-    ensures curve { λ x. ⌜ x ≡ inCells (x .outcome) (checkedDefault (rawBid start n (now (steps .entry)))) ⌝ }
+    ensures ends { λ x. ⌜ x ≡ endsBy (x .outcome) (checkedDefault (rawBid start n (now (steps .entry)))) ⌝ }
+    ensures cells { λ x. ⌜ now (cells .exit) ≡ ifAccepted (defaultRefusal (rawBid start n (now (steps .entry)))) (curveCells (curveOf (rawBid start n (now (steps .entry))))) (now (cells .entry)) ⌝ }
 {
     let outcome = curve_outcome(
         start,
@@ -270,36 +251,18 @@ fn pack_in(start: i64, n: usize, steps: &[i64]) -> DefaultCells
         Curve::HIGHEST_DEFAULT,
     );
     let Outcome::Accepted = outcome else {
-        return DefaultCells {
+        return DefaultEnds {
             outcome,
             start: 0,
             end: 0,
-            cells: [0i64; rules_state::CURVE_ROOM],
         };
     };
-    let cells = curve_of(start, n, steps);
-    DefaultCells {
+    *cells = curve_of(start, n, steps);
+    DefaultEnds {
         outcome: Outcome::Accepted,
         start: number::whole(start),
         end: end_at(start, n, steps),
-        cells,
     }
-}
-
-// The default curve of a block, or the lowest refusal of its costs or pack.
-fn default_in(block: &[i64]) -> DefaultCells
-    requires { ⌜ length (now block) ≡ blockRoom ⌝ }
-    ensures number { λ x. ⌜ outcomeNumber (x .outcome) ≡ sourceRefusal (resourceIn (now (block .entry)) .source) (resourceIn (now (block .entry))) ⌝ }
-    ensures curve { λ x. ⌜ x ≡ inCells (x .outcome) (unlessRefused (sourceRefusal (resourceIn (now (block .entry)) .source) (resourceIn (now (block .entry)))) (defaultBy (resourceIn (now (block .entry)) .source) (resourceIn (now (block .entry))))) ⌝ }
-{
-    if cells::cell_at(block, 25) == 0 {
-        return cost::default_cells(costs_of(block));
-    }
-    pack_in(
-        cells::cell_at(block, 56),
-        cells::whole_at(block, 57) as usize,
-        &block[58..],
-    )
 }
 
 // Puts the cells of a curve from a cell on.
@@ -327,6 +290,32 @@ fn put_steps(state: &mut [i64], at: usize, start: i64, n: usize, steps: &[i64])
     put_cells(state, at, &curve);
 }
 
+// Puts a bid and the cells of its default curve from a cell on, or answers the default curve's refusal, or 11 where the bid goes past it.
+fn put_default(
+    start: i64,
+    n: usize,
+    steps: &[i64],
+    default: DefaultEnds,
+    curve: &[i64; rules_state::CURVE_ROOM],
+    at: usize,
+    state: &mut [i64],
+) -> Outcome
+    requires { ⌜ ((n ≤ mostSteps) × (2 * mostSteps ≤ length (now steps))) × ((length (now curve) ≡ curveRoom) × (at + rowRoom ≤ stateRoom)) ⌝ }
+    ensures number { λ x. ⌜ outcomeNumber x ≡ (outcomeNumber (default .outcome) then unless (leb (default .start) (curveOf (rawBid start n (now (steps .entry))) .start) && leb (endOf (curveOf (rawBid start n (now (steps .entry))) .start) (stepsOf (curveOf (rawBid start n (now (steps .entry)))))) (default .end)) 11) ⌝ }
+    ensures state { λ x. ⌜ now (state .exit) ≡ ifAccepted (outcomeNumber x) (sets (now (state .entry)) at (curveCells (curveOf (rawBid start n (now (steps .entry)))) ++ now (curve .entry))) (now (state .entry)) ⌝ }
+{
+    let outcome = default.outcome;
+    let Outcome::Accepted = outcome else {
+        return outcome;
+    };
+    if !lies_inside(start, n, steps, default.start, default.end) {
+        return Outcome::Refused(Refusal::OutsideDefault);
+    }
+    put_steps(state, at, start, n, steps);
+    put_cells(state, at + rules_state::CURVE_ROOM, curve);
+    Outcome::Accepted
+}
+
 // Puts the row of a block from a cell on, or answers its first refusal.
 fn put_block(month: u64, block: &[i64], at: usize, state: &mut [i64]) -> Outcome
     requires { ⌜ (length (now block) ≡ blockRoom) × (at + rowRoom ≤ stateRoom) ⌝ }
@@ -340,18 +329,23 @@ fn put_block(month: u64, block: &[i64], at: usize, state: &mut [i64]) -> Outcome
     let Outcome::Accepted = outcome else {
         return outcome;
     };
-    let default = default_in(block);
-    let outcome = default.outcome;
-    let Outcome::Accepted = outcome else {
-        return outcome;
-    };
-    if !lies_inside(start, n, &block[3..], default.start, default.end) {
-        return Outcome::Refused(Refusal::OutsideDefault);
+    let mut curve = [0i64; rules_state::CURVE_ROOM];
+    if cells::cell_at(block, 25) == 0 {
+        let default = cost::default_cells(
+            cells::whole_at(block, 26) as usize,
+            &block[27..],
+            &block[49..],
+            &mut curve,
+        );
+        return put_default(start, n, &block[3..], default, &curve, at, state);
     }
-    put_steps(state, at, start, n, &block[3..]);
-    let curve = default.cells;
-    put_cells(state, at + rules_state::CURVE_ROOM, &curve);
-    Outcome::Accepted
+    let default = pack_in(
+        cells::cell_at(block, 56),
+        cells::whole_at(block, 57) as usize,
+        &block[58..],
+        &mut curve,
+    );
+    put_default(start, n, &block[3..], default, &curve, at, state)
 }
 
 // Puts the row of resource r, or answers its first refusal. A block that goes past the end is copied first.

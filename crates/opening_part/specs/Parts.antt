@@ -1,23 +1,28 @@
 -- What the part of a text that opens an hour answers.
 use Prim.Native.Nat.{ℕ, zero, suc, _+_, _-_}
 use mathlib.Core.Path.{_≡_}
-use mathlib.Core.List.{List, [], map}
+use mathlib.Core.List.{List, [], flatMap}
 use lib.IntN.{ℤ, pos}
 use lib.ListN.{length, drop}
 use Rattle.rules_opening.specs.declared.Opening.{Opening}
 use Rattle.rules_opening.specs.Openings.{openingRefusal}
 use Rattle.rules_text.specs.Numbers.{Line, lines}
-use Rattle.rules_text.specs.Tables.{Reading, Reader, faulty, found, _▷_, headed, counted, cell}
+use Rattle.rules_text.specs.Tables.{Reading, Reader, faulty, found, _▷_, headed, counted}
 use Rattle.rules_text.specs.Offsets.{kept, bytesOf}
 use Rattle.rules_state.specs.OpenedInto.{openedInto}
-use Rattle.text_blocks.specs.Blocks.{lastThree, openingWith}
+use Rattle.text_blocks.specs.Blocks.{ownerCells, lastThree, openingWith}
 use Rattle.opening_part.specs.declared.PartOpened.{PartOpened}
 
--- the part's last four tables, after a month and the marks of the portfolios
+-- the part's last four tables, after a month and the marks of the portfolios, from the first line of the resources on
 abbrev pub lastFour : ℤ → ℕ → List ℤ → Reader Opening
 lastFour month portfolios sellers =
+    counted 3 ▷ λ rows. lastThree (length rows) (openingWith month portfolios sellers (length rows) (kept 128 (pos 0) (flatMap ownerCells rows)))
+
+-- the same with the names of the resources' table
+abbrev pub headedFour : ℤ → ℕ → List ℤ → Reader Opening
+headedFour month portfolios sellers =
     headed "resource portfolio start\n" (counted 3) ▷ λ rows.
-    lastThree (length rows) (openingWith month portfolios sellers (length rows) (kept 64 (pos 0) (map (cell 1) rows)) (kept 64 (pos 0) (map (cell 2) rows)))
+    lastThree (length rows) (openingWith month portfolios sellers (length rows) (kept 128 (pos 0) (flatMap ownerCells rows)))
 
 -- ---- answers
 -- number 17 and the faulty line

@@ -6,13 +6,13 @@ use crate::tables::Charges;
 use crate::tables::charges_into;
 use crate::tables::groups_into;
 use opening_cells::open_into;
+use reader::row_of;
 use rules_interval::Interval;
 use rules_path::Market;
 use rules_text::Found;
-use text_lines::row_at;
 use text_names::line_is;
-use text_tables::marks_at;
-use text_tables::two_columns_at;
+use text_tables::owners_at;
+use text_tables::sellers_at;
 ghost use mathlib.Core.Path.{_≡_};
 ghost use Prim.Native.Nat.{_+_, _-_, _≤_, min};
 ghost use lib.ListN.{length, drop};
@@ -21,7 +21,7 @@ ghost use Rattle.rules_text.specs.Offsets.{bytesOf};
 ghost use Rattle.rules_parts.specs.Parts.{readOpening};
 ghost use Rattle.rules_state.specs.Openings.{openingIn};
 ghost use Rattle.text_blocks.specs.Blocks.{ownerCells, ownerRows, blocksPut, lastThree, blocksOf, readCells, nextAfter, openingWith};
-ghost use Rattle.opening_part.specs.Parts.{lastFour, faultyAt, partAnswer, partState, linesAfter, Opened};
+ghost use Rattle.opening_part.specs.Parts.{lastFour, headedFour, faultyAt, partAnswer, partState, linesAfter, Opened};
 
 // What opening the part of a text answers: 17 and the number of the faulty line; the opening's refusal and the number of the part's last line; or 0, that
 // number, the offset of the next line and the number of resources.
@@ -32,12 +32,22 @@ pub struct PartOpened {
     pub resources: usize,
 }
 
-// A part of so many resources has its blocks in a small array.
-const SMALL: usize = 4;
+// A part of one resource, or of few, has its blocks in a smaller array.
+const FEW: usize = 8;
 
-const SMALL_ROOM: usize = SMALL * rules_state::BLOCK_ROOM;
+const ONE_ROOM: usize = rules_state::BLOCK_ROOM;
+
+const FEW_ROOM: usize = FEW * rules_state::BLOCK_ROOM;
 
 const ROOM: usize = Interval::MAX_RESOURCES * rules_state::BLOCK_ROOM;
+
+// Portfolio and start of each resource in turn.
+const OWNERS_ROOM: usize = 2 * Interval::MAX_RESOURCES;
+
+// A text of at most so many bytes has most likely one resource.
+const SHORT_BYTES: usize = 1024;
+
+const ONE_OWNER: usize = 2;
 
 // Where the tables stand in a resource's block.
 const STEPS_FROM: usize = 2;
@@ -82,19 +92,15 @@ fn tables_into(s: &[u8], at: usize, m: usize, n: usize, blocks: &mut [i64]) -> C
 }
 
 // Puts portfolio and start of the first m resources, of at most 64, into their blocks.
-fn owners_into(
-    portfolio: &[i64; Interval::MAX_RESOURCES],
-    start: &[i64; Interval::MAX_RESOURCES],
-    m: usize,
-    blocks: &mut [i64],
-)
-    ensures { λ u. ⌜ now (blocks .exit) ≡ blocksPut ownerCells 0 0 (now (blocks .entry)) (ownerRows (now (portfolio .entry)) (now (start .entry)) (min m 64)) ⌝ }
+fn owners_into(owners: &[i64], m: usize, blocks: &mut [i64])
+    ensures { λ u. ⌜ now (blocks .exit) ≡ blocksPut ownerCells 0 0 (now (blocks .entry)) (ownerRows (now (owners .entry)) (min m 64)) ⌝ }
 {
     let n = number::at_most(m, Interval::MAX_RESOURCES);
     let mut r: usize = 0;
     while r < n {
-        cells::put(blocks, rules_state::BLOCK_ROOM * r, portfolio[r]);
-        cells::put(blocks, rules_state::BLOCK_ROOM * r + 1, start[r]);
+        let at = rules_state::BLOCK_ROOM * r;
+        cells::put(blocks, at, cells::cell_at(owners, 2 * r));
+        cells::put(blocks, at + 1, cells::cell_at(owners, 2 * r + 1));
         r += 1;
     }
 }
@@ -148,8 +154,8 @@ fn opened_in(
     }
 }
 
-// The same of at most 4 resources whose portfolios and starts are read, in a small array.
-fn opened_small(
+// The same of at most one resource whose portfolio and start are read, in a small array.
+fn opened_one(
     s: &[u8],
     at: usize,
     n: usize,
@@ -157,19 +163,38 @@ fn opened_small(
     portfolios: usize,
     sellers: &[i64],
     m: usize,
-    portfolio: &[i64; Interval::MAX_RESOURCES],
-    start: &[i64; Interval::MAX_RESOURCES],
+    owners: &[i64],
     state: &mut [i64],
 ) -> PartOpened
-    requires { ⌜ (n + length (lines (drop at (now s))) ≤ 66000 + length (now s)) × (m ≤ 4) ⌝ }
-    ensures { λ r. ⌜ Opened (now (s .entry)) n at (lastThree m (openingWith month portfolios (now (sellers .entry)) m (now (portfolio .entry)) (now (start .entry))) n (lines (drop at (now (s .entry))))) (now (state .entry)) (now (state .exit)) r ⌝ }
+    requires { ⌜ (n + length (lines (drop at (now s))) ≤ 66000 + length (now s)) × (m ≤ 1) ⌝ }
+    ensures { λ r. ⌜ Opened (now (s .entry)) n at (lastThree m (openingWith month portfolios (now (sellers .entry)) m (now (owners .entry))) n (lines (drop at (now (s .entry))))) (now (state .entry)) (now (state .exit)) r ⌝ }
 {
-    let mut blocks = [0i64; SMALL_ROOM];
-    owners_into(portfolio, start, m, &mut blocks);
+    let mut blocks = [0i64; ONE_ROOM];
+    owners_into(owners, m, &mut blocks);
     opened_in(s, at, n, month, portfolios, sellers, m, &mut blocks, state)
 }
 
-// The same of any number of resources: of more than 4 in a large array.
+// The same of at most 8, in a larger one.
+fn opened_few(
+    s: &[u8],
+    at: usize,
+    n: usize,
+    month: i64,
+    portfolios: usize,
+    sellers: &[i64],
+    m: usize,
+    owners: &[i64],
+    state: &mut [i64],
+) -> PartOpened
+    requires { ⌜ (n + length (lines (drop at (now s))) ≤ 66000 + length (now s)) × (m ≤ 8) ⌝ }
+    ensures { λ r. ⌜ Opened (now (s .entry)) n at (lastThree m (openingWith month portfolios (now (sellers .entry)) m (now (owners .entry))) n (lines (drop at (now (s .entry))))) (now (state .entry)) (now (state .exit)) r ⌝ }
+{
+    let mut blocks = [0i64; FEW_ROOM];
+    owners_into(owners, m, &mut blocks);
+    opened_in(s, at, n, month, portfolios, sellers, m, &mut blocks, state)
+}
+
+// The same of any number, of more than 8 in the largest.
 fn opened_with(
     s: &[u8],
     at: usize,
@@ -178,34 +203,22 @@ fn opened_with(
     portfolios: usize,
     sellers: &[i64],
     m: usize,
-    portfolio: &[i64; Interval::MAX_RESOURCES],
-    start: &[i64; Interval::MAX_RESOURCES],
+    owners: &[i64],
     state: &mut [i64],
 ) -> PartOpened
     requires { ⌜ n + length (lines (drop at (now s))) ≤ 66000 + length (now s) ⌝ }
-    ensures { λ r. ⌜ Opened (now (s .entry)) n at (lastThree m (openingWith month portfolios (now (sellers .entry)) m (now (portfolio .entry)) (now (start .entry))) n (lines (drop at (now (s .entry))))) (now (state .entry)) (now (state .exit)) r ⌝ }
+    ensures { λ r. ⌜ Opened (now (s .entry)) n at (lastThree m (openingWith month portfolios (now (sellers .entry)) m (now (owners .entry))) n (lines (drop at (now (s .entry))))) (now (state .entry)) (now (state .exit)) r ⌝ }
 {
-    if m <= SMALL {
-        return opened_small(
-            s,
-            at,
-            n,
-            month,
-            portfolios,
-            sellers,
-            m,
-            portfolio,
-            start,
-            state,
-        );
+    if m <= FEW {
+        return opened_few(s, at, n, month, portfolios, sellers, m, owners, state);
     }
     let mut blocks = [0i64; ROOM];
-    owners_into(portfolio, start, m, &mut blocks);
+    owners_into(owners, m, &mut blocks);
     opened_in(s, at, n, month, portfolios, sellers, m, &mut blocks, state)
 }
 
-// The resources at an offset before which n lines stand, and what is opened of them.
-fn opened_after(
+// The lines of the resources at an offset before which n lines stand, and what is opened of them.
+fn opened_long(
     s: &[u8],
     at: usize,
     n: usize,
@@ -217,26 +230,74 @@ fn opened_after(
     requires { ⌜ n + length (lines (drop at (now s))) ≤ 60000 + length (now s) ⌝ }
     ensures { λ r. ⌜ Opened (now (s .entry)) n at (lastFour month portfolios (now (sellers .entry)) n (lines (drop at (now (s .entry))))) (now (state .entry)) (now (state .exit)) r ⌝ }
 {
-    let Found::At(at) = line_is(s, at, b"resource portfolio start\n") else {
-        return faulty_line(n + 1);
-    };
-    let mut portfolio = [0i64; Interval::MAX_RESOURCES];
-    let mut start = [0i64; Interval::MAX_RESOURCES];
-    let owners = two_columns_at(s, at, &mut portfolio, &mut start);
-    let m = owners.count;
-    let n = n + 1 + m;
+    let mut owners = [0i64; OWNERS_ROOM];
+    let table = owners_at(s, at, &mut owners);
+    let m = table.count;
     opened_with(
         s,
-        owners.next,
-        n,
+        table.next,
+        n + m,
         month,
         portfolios,
         sellers,
         m,
-        &portfolio,
-        &start,
+        &owners,
         state,
     )
+}
+
+// The same of a short text, in smaller arrays where it has one resource.
+fn opened_short(
+    s: &[u8],
+    at: usize,
+    n: usize,
+    month: i64,
+    portfolios: usize,
+    sellers: &[i64],
+    state: &mut [i64],
+) -> PartOpened
+    requires { ⌜ n + length (lines (drop at (now s))) ≤ 60000 + length (now s) ⌝ }
+    ensures { λ r. ⌜ Opened (now (s .entry)) n at (lastFour month portfolios (now (sellers .entry)) n (lines (drop at (now (s .entry))))) (now (state .entry)) (now (state .exit)) r ⌝ }
+{
+    let mut owner = [0i64; ONE_OWNER];
+    let table = owners_at(s, at, &mut owner);
+    let m = table.count;
+    if 1 < m {
+        return opened_long(s, at, n, month, portfolios, sellers, state);
+    }
+    opened_one(
+        s,
+        table.next,
+        n + m,
+        month,
+        portfolios,
+        sellers,
+        m,
+        &owner,
+        state,
+    )
+}
+
+// The resources' table at an offset before which n lines stand, and what is opened of it. The long way is a function of its own, since its arrays take many pages of stack.
+fn opened_after(
+    s: &[u8],
+    at: usize,
+    n: usize,
+    month: i64,
+    portfolios: usize,
+    sellers: &[i64],
+    state: &mut [i64],
+) -> PartOpened
+    requires { ⌜ n + length (lines (drop at (now s))) ≤ 60000 + length (now s) ⌝ }
+    ensures { λ r. ⌜ Opened (now (s .entry)) n at (headedFour month portfolios (now (sellers .entry)) n (lines (drop at (now (s .entry))))) (now (state .entry)) (now (state .exit)) r ⌝ }
+{
+    let Found::At(at) = line_is(s, at, b"resource portfolio start\n") else {
+        return faulty_line(n + 1);
+    };
+    if s.len() <= SHORT_BYTES {
+        return opened_short(s, at, n + 1, month, portfolios, sellers, state);
+    }
+    opened_long(s, at, n + 1, month, portfolios, sellers, state)
 }
 
 // Opens an hour into its cells by the part at the beginning of a text.
@@ -248,7 +309,7 @@ pub fn part_opened(s: &[u8], state: &mut [i64]) -> PartOpened
     let Found::At(at) = line_is(s, 0, b"month\n") else {
         return faulty_line(1);
     };
-    let row = row_at(s, at, 1);
+    let row = row_of(s, at, 1);
     let month = row.v;
     if !row.ok {
         return faulty_line(2);
@@ -257,7 +318,7 @@ pub fn part_opened(s: &[u8], state: &mut [i64]) -> PartOpened
         return faulty_line(3);
     };
     let mut sellers = [0i64; Market::MAX_PORTFOLIOS];
-    let portfolios = marks_at(s, at, &mut sellers);
+    let portfolios = sellers_at(s, at, &mut sellers);
     opened_after(
         s,
         portfolios.next,

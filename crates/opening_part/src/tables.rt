@@ -2,8 +2,8 @@
 // definitions of rules_text.
 use rules_curve::Curve;
 use rules_interval::Interval;
-use text_lines::id_row_at;
 use text_lines::id_three_at;
+use text_numbers::rows::eight_at;
 ghost use mathlib.Core.Path.{_≡_};
 ghost use mathlib.Core.Bool.{cond};
 ghost use Prim.Native.Nat.{_+_, _-_, _*_, _≤_};
@@ -94,14 +94,33 @@ pub(crate) fn groups_into(
     Groups { line, next }
 }
 
-// Puts the seven charges of a cost line from a cell on.
-fn put_charges(cells: &mut [i64], at: usize, v: [i64; 8])
+// The charges of a cost line: gas, rate, allowance, om, msc, soc and fee.
+const CHARGES: usize = 7;
+
+// Puts those for which there is a cell, from a cell on.
+fn put_within(cells: &mut [i64], at: usize, v: [i64; 8])
     requires { ⌜ at ≤ 6000 ⌝ }
     ensures { λ u. ⌜ now (cells .exit) ≡ sets (now (cells .entry)) at (drop 1 v) ⌝ }
 {
     let mut k = 0;
-    while k < 7 {
+    while k < CHARGES {
         cells::put(cells, at + k, v[k + 1]);
+        k += 1;
+    }
+}
+
+// The same, without a test of each cell where there is room for all.
+fn put_charges(cells: &mut [i64], at: usize, v: [i64; 8])
+    requires { ⌜ at ≤ 6000 ⌝ }
+    ensures { λ u. ⌜ now (cells .exit) ≡ sets (now (cells .entry)) at (drop 1 v) ⌝ }
+{
+    if cells.len() < at + CHARGES {
+        put_within(cells, at, v);
+        return;
+    }
+    let mut k = 0;
+    while k < CHARGES {
+        cells[at + k] = v[k + 1];
         k += 1;
     }
 }
@@ -123,7 +142,7 @@ pub(crate) fn charges_into(
     let mut next = at;
     let mut r = 0;
     while r < m {
-        let row = id_row_at(s, next, 8, r);
+        let row = eight_at(s, next, r);
         let v = row.v;
         line += 1;
         if !row.ok {

@@ -1,11 +1,13 @@
 -- Laws of the numbers of a resource put in turn. Assumes nothing.
-use Prim.Native.Nat.{ℕ, suc, _+_, _*_, _<_}
+use Prim.Native.Nat.{ℕ, suc, _+_, _*_, _^_, _≤_, _<_}
 use mathlib.Core.Path.{_≡_, refl, sym, ap, ap₂, _∙_}
 use mathlib.Core.List.{List, [], _∷_, _++_, flatMap}
 use native.Mathlib.Omega.{arith}
 use lib.IntN.{ℤ}
+use lib.Signed.{mag}
 use lib.ListN.{length, getD, set, length-append}
-use lib.Seq.{sets}
+use lib.Seq.{sets, length-sets}
+use Rattle.rules_number.proofs.Kit.{rd, came}
 use Rattle.rules_curve.specs.declared.RawCurve.{RawCurve}
 use Rattle.rules_cost.specs.declared.Costs.{Costs}
 use Rattle.rules_opening.specs.declared.Resource.{Resource}
@@ -14,6 +16,7 @@ use Rattle.rules_state.specs.Fits.{Each}
 use Rattle.rules_state.specs.Layout.{blockRoom}
 use Rattle.rules_state.specs.States.{cellOf}
 use Rattle.rules_state.proofs.StandLaws.{flat-length}
+use Rattle.cells.proofs.PutLaws.{BlocksLeft, blocks-begin, blocks-go-on, blocks-end}
 use Rattle.opening_puts.specs.Blocks.{rawRoom, costRoom, stepNumbers, pointNumbers, rawNumbers, charges, costNumbers, sourceNumber, blockNumbers, Rooms}
 
 -- one number, or a list, and then the rest
@@ -30,6 +33,31 @@ pair-put s one out at a b x y p q e f = one-more s one out at (at + 1) a (b ∷ 
 
 pub pair-exact : (s out : List ℤ) (at : ℕ) (a b x y : ℤ) → x ≡ a → y ≡ b → out ≡ sets s at (x ∷ y ∷ []) → out ≡ sets s at (a ∷ b ∷ [])
 pair-exact s out at a b x y p q e = e ∙ ap₂ (λ (i j : ℤ). sets s at (i ∷ j ∷ [])) p q
+
+-- a loop that puts two numbers for each of n elements: those of the first k are put
+pub record Pairs {A : Type 0} (f : A → List ℤ) (n : ℕ) (l : List A) (before : List ℤ) (at : ℕ) (blocks : List ℤ) (k : ℕ) : Type 0 where
+  pub many : length l ≡ n
+  pub few : k ≤ n
+  pub room : length blocks ≡ length before
+  pub left : BlocksLeft f 2 l before at blocks k
+
+pub pairs-start : {A : Type 0} (f : A → List ℤ) (n : ℕ) (l : List A) (before : List ℤ) (at : ℕ) → length l ≡ n → Pairs f n l before at before 0
+pairs-start f n l before at e = record { many = e; few = omega arith; room = refl; left = blocks-begin f 2 l before at }
+
+module _ {A : Type 0} {f : A → List ℤ} {n : ℕ} {l : List A} {before : List ℤ} {at : ℕ} {blocks : List ℤ} {k : ℕ} (h : Pairs f n l before at blocks k) where
+  pub pairs-again : (d : A) {next : List ℤ} {y z : ℤ} → k < n → next ≡ sets blocks (at + 2 * k) (rd y ∷ rd z ∷ []) → mag y < 2 ^ 63 → mag z < 2 ^ 63 → f (getD l k d) ≡ y ∷ z ∷ []
+      → Pairs f n l before at next (k + 1)
+  pairs-again d {next} {y} {z} m e p q g =
+      let out = pair-exact blocks next (at + 2 * k) y z (rd y) (rd z) (came y p) (came z q) e in
+      record {
+        many = h .many;
+        few = omega arith;
+        room = ap length out ∙ length-sets blocks (at + 2 * k) (y ∷ z ∷ []) ∙ h .room;
+        left = blocks-go-on f 2 l before at d blocks k next (h .left) (omega (arith, h .many)) (ap length g) (rw g out);
+      }
+
+  pub pairs-end : n ≤ k → blocks ≡ sets before at (flatMap f l)
+  pairs-end m = blocks-end f 2 l before at blocks k (h .left) (omega (arith, h .many))
 
 -- what holds of each index holds of each entry
 pub each-from : {A : Type 0} (P : A → Type 0) (d : A) (l : List A) → ((k : ℕ) → k < length l → P (getD l k d)) → Each P l

@@ -1,14 +1,18 @@
 -- A refusal leaves the cells, and verdicts are put one after the other. Assumes nothing.
-use mathlib.Core.List.{List}
+use mathlib.Core.Bool.{Bool, true, false, cond}
+use mathlib.Core.List.{List, map}
 use mathlib.Core.Path.{_≡_, refl, sym, ap, ap₂, _∙_}
 use Prim.Native.Nat.{ℕ, zero, suc, _+_, _*_, _≤_, _<_}
 use native.Mathlib.Omega.{arith}
 use lib.IntN.{ℤ}
-use lib.ListN.{length, getD}
+use lib.ListN.{length, getD, length-map}
 use lib.Seq.{sets}
 use Rattle.rules_number.specs.Over.{listed}
 use Rattle.rules_number.proofs.OverLaws.{listed-length, listed-at}
-use Rattle.rules_path.specs.Verdicts.{notBinding}
+use Rattle.rules_path.specs.Paths.{Path, binds, demand, left, named, sellers, amountOf, isNonCompetitive}
+use Rattle.rules_path.specs.Verdicts.{verdictOf, notBinding}
+use Rattle.rules_path.specs.declared.Finding.the-variants.{Competitive, NonCompetitive}
+use Rattle.rules_state.specs.States.{cellOf}
 use Rattle.rules_path.specs.declared.Verdict.{Verdict}
 use Rattle.rules_state.specs.Layout.{verdictWidth}
 use Rattle.rules_state.specs.Takes.{ifAccepted}
@@ -18,6 +22,15 @@ use Rattle.cells.proofs.PutLaws.{BlocksLeft, blocks-begin, blocks-go-on, blocks
 pub refused-cells : (n : ℕ) (written l : List ℤ) → 0 < n → l ≡ ifAccepted n written l
 refused-cells zero written l h = absurd (omega arith)
 refused-cells (suc n) written l h = refl
+
+-- a verdict is twenty cells
+pub verdict-length : (d : Path) → length (verdictCells (verdictOf d)) ≡ verdictWidth
+unfolding verdictOf verdictCells
+verdict-length d = go (binds d)
+  where
+    go : (b : Bool) → length (verdictCells (cond b (record { finding = cond (isNonCompetitive d) NonCompetitive Competitive; demand = demand d; left = left d; named = named d; withheld = listed (λ p. amountOf p (sellers d)) 16 }) notBinding)) ≡ verdictWidth
+    go true = let n : length (map cellOf (listed (λ p. amountOf p (sellers d)) 16)) ≡ 16 = simp length-map (listed-length (λ p. amountOf p (sellers d)) 16) in omega arith
+    go false = refl
 
 -- a loop that puts the verdict on each of n constraints: what is left, put where the loop stands, gives the whole
 module _ (f : ℕ → Verdict) (n : ℕ) (before : List ℤ) where

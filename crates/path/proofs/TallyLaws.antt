@@ -1,6 +1,6 @@
 -- A pass over the resources that adds up demand, supply and what each portfolio can withhold.
 use mathlib.Core.Bool.{Bool, true, false, cond}
-use mathlib.Core.List.{List, []}
+use mathlib.Core.List.{List}
 use mathlib.Core.Logic.{⊎-elim}
 use mathlib.Core.Path.{_≡_, refl, sym, ap, _∙_}
 use Prim.Native.Nat.{ℕ, zero, suc, _+_, _-_, _*_, _^_, _≤_, _<_, zero-le}
@@ -63,7 +63,7 @@ nothing false k = refl
 module _ (factors dispatch available floor : List ℤ) (portfolio : List ℕ) (c : ℕ) where
   -- the first n resources
   abbrev pub first : ℕ → Path
-  first n = pathOf (pos 0) factors dispatch available floor portfolio [] n c
+  first n = pathOf (pos 0) factors dispatch available floor portfolio (replicate 16 1) n c
 
   -- what is added up after n resources
   pub record Added (n x y : ℕ) (w : List ℕ) : Type 0 where
@@ -139,7 +139,7 @@ module _ (factors dispatch available floor : List ℤ) (portfolio : List ℕ) (c
   added-start = record { demand-is = refl; supply-is = refl; withholdable-is = refl }
 
   -- the whole tally
-  pub tallied : (n x y : ℕ) (w : List ℕ) → Added n x y w → record { demand = x; supply = y; withholdable = w } ≡ tallyOf (first n)
+  pub tallied : (n x y : ℕ) (w : List ℕ) → Added n x y w → record { demand = x; supply = y; offers = w } ≡ tallyOf (first n)
   tallied n x y w a = rw (a .demand-is, a .supply-is, a .withholdable-is)
 
   -- what is known of resource n where all is in range

@@ -7,8 +7,8 @@ use mathlib.Core.List.{List, [], _∷_, _++_, append-assoc}
 use native.Mathlib.Omega.{arith}
 use native.Mathlib.Nat.{mod-lt, pow-suc}
 use lib.Bits.{bitAnd, and-block, and-mask}
-use lib.ListN.{length, take, getD, set, length-append}
-use lib.Seq.{sets, set-set}
+use lib.ListN.{length, take, drop, getD, set, length-append, drop-of-length-le}
+use lib.Seq.{sets, set-set, take-all}
 use lib.IntN.{ℤ, pos, negsuc, natAbs}
 use lib.Signed.{ltZ}
 use Rattle.rules_number.proofs.OverLaws.{never, le-or-lt}
@@ -203,48 +203,65 @@ four-is n x t h e f =
     let c : n % 10 ≡ n % 100 % 10 = omega arith in
     rw (a, b, c) (two-pairs x t (n / 100 / 10) (n / 100 % 10) (n % 100 / 10) (n % 100 % 10) (n / 100) (n % 100) e f (pair (n / 100)) (pair (n % 100)))
 
--- ---- a line of four values
+-- ---- a line of four values, or of five
 -- a number that is not negative is its size
 pub own-size : (x : ℤ) → ltZ x (pos 0) ≡ false → pos (natAbs x) ≡ x
 own-size (pos n) e = refl
 own-size (negsuc n) e = never (sym e)
 
+all-five : (v : Row) → length v ≡ 5 → v ≡ (getD v 0 (pos 0) ∷ getD v 1 (pos 0) ∷ getD v 2 (pos 0) ∷ getD v 3 (pos 0) ∷ getD v 4 (pos 0) ∷ [])
+all-five v n =
+    let end : drop 5 v ≡ [] = drop-of-length-le v {i = 5} (omega arith) in
+    let put : (i : ℕ) (t : Row) → i < 5 → drop (i + 1) v ≡ t → drop i v ≡ getD v i (pos 0) ∷ t = λ i t h e. at-cons (pos 0) v i (omega arith) ∙ ap (λ (r : Row). getD v i (pos 0) ∷ r) e in
+    put 0 _ (omega arith) (put 1 _ (omega arith) (put 2 _ (omega arith) (put 3 _ (omega arith) (put 4 _ (omega arith) end))))
+
 pub first-four : (v : Row) → length v ≡ 5 → take 4 v ≡ (getD v 0 (pos 0) ∷ getD v 1 (pos 0) ∷ getD v 2 (pos 0) ∷ getD v 3 (pos 0) ∷ [])
-first-four v n =
-    let a = at-cons (pos 0) v 0 (omega arith) in
-    let b = at-cons (pos 0) v 1 (omega arith) in
-    let c = at-cons (pos 0) v 2 (omega arith) in
-    let d = at-cons (pos 0) v 3 (omega arith) in
-    let x = getD v 0 (pos 0) in
-    let y = getD v 1 (pos 0) in
-    let z = getD v 2 (pos 0) in
-    ap (take 4) (a ∙ ap (λ (t : Row). x ∷ t) (b ∙ ap (λ (t : Row). y ∷ t) (c ∙ ap (λ (t : Row). z ∷ t) d)))
+first-four v n = ap (take 4) (all-five v n)
+
+pub first-five : (v : Row) (k : ℕ) → length v ≡ 5 → 5 ≤ k → take k v ≡ (getD v 0 (pos 0) ∷ getD v 1 (pos 0) ∷ getD v 2 (pos 0) ∷ getD v 3 (pos 0) ∷ getD v 4 (pos 0) ∷ [])
+first-five v k n h = take-all k v (omega arith) ∙ all-five v n
 
 abbrev pub head : ℕ → ℕ → List ℕ
 head a b = digits 19 a ++ (32 ∷ (digits 19 b ++ (32 ∷ [])))
 
-line-four : (a b : ℕ) (c d : ℤ) → (head a b ++ (decimal c ++ (32 ∷ []))) ++ (decimal d ++ (10 ∷ [])) ≡ lineText (pos a ∷ pos b ∷ c ∷ d ∷ [])
-unfolding lineText decimal
-line-four a b c d =
-    let e = decimal d ++ (10 ∷ []) in
-    let t = (decimal c ++ (32 ∷ [])) ++ e in
-    append-assoc (head a b) (decimal c ++ (32 ∷ [])) e ∙ append-assoc (digits 19 a) (32 ∷ (digits 19 b ++ (32 ∷ []))) t
-    ∙ ap (λ (l : List ℕ). digits 19 a ++ (32 ∷ l)) (append-assoc (digits 19 b) (32 ∷ []) t ∙ ap (λ (l : List ℕ). digits 19 b ++ (32 ∷ l)) (append-assoc (decimal c) (32 ∷ []) e))
+-- a number and the byte that closes it
+abbrev pub closed : ℤ → ℕ → List ℕ
+closed x end = decimal x ++ (end ∷ [])
 
-pub four-values : (out one two three : List ℕ) (at p q r a b : ℕ) (c d : ℤ) → a < 10 → one ≡ sets out at (head a b) → p ≡ at + length (digits 19 b) + 3
-    → two ≡ sets one p (decimal c ++ (32 ∷ [])) → q ≡ p + length (decimal c) + 1 → three ≡ sets two q (decimal d ++ (10 ∷ [])) → r ≡ q + length (decimal d) + 1
-    → (three ≡ sets out at (lineText (pos a ∷ pos b ∷ c ∷ d ∷ []))) × (r ≡ at + length (lineText (pos a ∷ pos b ∷ c ∷ d ∷ [])))
-four-values out one two three at p q r a b c d ha eo ep et eq er en =
-    let h = head a b in
-    let k = decimal c ++ (32 ∷ []) in
-    let m = decimal d ++ (10 ∷ []) in
-    let u : length h ≡ length (digits 19 b) + 3 =
-    omega (arith, length-append (digits 19 a) (32 ∷ (digits 19 b ++ (32 ∷ []))), length-append (digits 19 b) (32 ∷ []), ap length (one-digit a ha)) in
-    let v : length k ≡ length (decimal c) + 1 = omega (arith, length-append (decimal c) (32 ∷ [])) in
-    let w : length m ≡ length (decimal d) + 1 = omega (arith, length-append (decimal d) (10 ∷ [])) in
-    let x : length (h ++ k) ≡ length h + length k = length-append h k in
-    let y : length ((h ++ k) ++ m) ≡ length (h ++ k) + length m = length-append (h ++ k) m in
-    let z = ap length (line-four a b c d) in (
-      er ∙ after out two at q (h ++ k) m (lineText (pos a ∷ pos b ∷ c ∷ d ∷ [])) (et ∙ after out one at p h k (h ++ k) eo (omega (arith, u, ep)) refl) (omega (arith, u, v, x, ep, eq)) (line-four a b c d),
-      omega (arith, u, v, w, x, y, z, ep, eq, en),
-    )
+line-four : (a b : ℕ) (c d : ℤ) → (head a b ++ closed c 32) ++ closed d 10 ≡ lineText (pos a ∷ pos b ∷ c ∷ d ∷ [])
+unfolding lineText decimal
+line-four a b c d = simp append-assoc
+
+line-five : (a b : ℕ) (c d e : ℤ) → ((head a b ++ closed c 32) ++ closed d 32) ++ closed e 10 ≡ lineText (pos a ∷ pos b ∷ c ∷ d ∷ e ∷ [])
+unfolding lineText decimal
+line-five a b c d e = simp append-assoc
+
+-- the text t was put at an offset, and next is the offset after it
+pub record Placed (out : List ℕ) (at : ℕ) (t put : List ℕ) (next : ℕ) : Type 0 where
+  pub buffer : put ≡ sets out at t
+  pub after : next ≡ at + length t
+
+module _ {out put : List ℕ} {at next : ℕ} where
+  pub head-placed : (a b : ℕ) → a < 10 → put ≡ sets out at (head a b) → next ≡ at + length (digits 19 b) + 3 → Placed out at (head a b) put next
+  head-placed a b h e f = record {
+    buffer = e;
+    after = omega (arith, f, length-append (digits 19 a) (32 ∷ (digits 19 b ++ (32 ∷ []))), length-append (digits 19 b) (32 ∷ []), ap length (one-digit a h));
+  }
+
+  -- one number more
+  pub value-placed : {l t : List ℕ} {i : ℕ} (x : ℤ) (end : ℕ) → Placed out at t l i → put ≡ sets l i (closed x end) → next ≡ i + length (decimal x) + 1 → Placed out at (t ++ closed x end) put next
+  value-placed {l} {t} {i} x end w e f = record {
+    buffer = e ∙ after out l at i t (closed x end) (t ++ closed x end) (w .buffer) (w .after) refl;
+    after = omega (arith, f, w .after, length-append t (closed x end), length-append (decimal x) (end ∷ []));
+  }
+
+  placed-as : {t : List ℕ} (u : List ℕ) → t ≡ u → Placed out at t put next → (put ≡ sets out at u) × (next ≡ at + length u)
+  placed-as u e w = (w .buffer ∙ ap (sets out at) e, w .after ∙ ap (λ (x : List ℕ). at + length x) e)
+
+  pub four-placed : (a b : ℕ) (c d : ℤ) → Placed out at ((head a b ++ closed c 32) ++ closed d 10) put next
+      → (put ≡ sets out at (lineText (pos a ∷ pos b ∷ c ∷ d ∷ []))) × (next ≡ at + length (lineText (pos a ∷ pos b ∷ c ∷ d ∷ [])))
+  four-placed a b c d = placed-as _ (line-four a b c d)
+
+  pub five-placed : (a b : ℕ) (c d e : ℤ) → Placed out at (((head a b ++ closed c 32) ++ closed d 32) ++ closed e 10) put next
+      → (put ≡ sets out at (lineText (pos a ∷ pos b ∷ c ∷ d ∷ e ∷ []))) × (next ≡ at + length (lineText (pos a ∷ pos b ∷ c ∷ d ∷ e ∷ [])))
+  five-placed a b c d e = placed-as _ (line-five a b c d e)

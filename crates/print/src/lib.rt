@@ -130,15 +130,23 @@ fn put_tail(out: &mut [u8], at: usize, n: u64, end: u8) -> usize
     at + 5
 }
 
+// Puts a number of one digit, and the byte that closes it.
+fn put_digit(out: &mut [u8], at: usize, n: u64, end: u8) -> usize
+    requires { ⌜ (n < 10) × (at + 2 ≤ length (now out)) ⌝ }
+    ensures { λ r. ⌜ (now (out .exit) ≡ sets (now (out .entry)) at (digits 19 n ++ (end ∷ []))) × (r ≡ at + length (digits 19 n) + 1) ⌝ }
+{
+    out[at] = digit(n);
+    out[at + 1] = end;
+    at + 2
+}
+
 // Puts a number of up to four digits, and the byte that closes it.
 fn put_few(out: &mut [u8], at: usize, n: u64, end: u8) -> usize
     requires { ⌜ (n < 10000) × (at + length (digits 19 n) < length (now out)) ⌝ }
     ensures { λ r. ⌜ (now (out .exit) ≡ sets (now (out .entry)) at (digits 19 n ++ (end ∷ []))) × (r ≡ at + length (digits 19 n) + 1) ⌝ }
 {
     if n < 10 {
-        out[at] = digit(n);
-        out[at + 1] = end;
-        return at + 2;
+        return put_digit(out, at, n, end);
     }
     if n < 100 {
         put_two(out, at, n);
@@ -243,6 +251,17 @@ fn put_value(out: &mut [u8], at: usize, x: i64, end: u8) -> usize
     put_closed(out, at, magnitude(x), end)
 }
 
+// The same, at once where it has one digit.
+fn put_mark(out: &mut [u8], at: usize, x: i64, end: u8) -> usize
+    requires { ⌜ at + length (decimal x) < length (now out) ⌝ }
+    ensures { λ r. ⌜ (now (out .exit) ≡ sets (now (out .entry)) at (decimal x ++ (end ∷ []))) × (r ≡ at + length (decimal x) + 1) ⌝ }
+{
+    if is_below(x, 10) {
+        return put_digit(out, at, magnitude(x), end);
+    }
+    put_value(out, at, x, end)
+}
+
 // The head of a line as bytes of one number, the first lowest: a digit, and one digit more or two.
 fn head_of(a: u64, b: u64) -> u64
     requires { ⌜ (a < 10) × (b < 100) ⌝ }
@@ -271,12 +290,23 @@ fn put_head(out: &mut [u8], at: usize, a: u64, b: u64) -> usize
 
 // Puts a line of four values, of which the first has one digit and the second up to two, and answers the offset after it.
 fn put_step(out: &mut [u8], at: usize, a: u64, b: u64, c: i64, d: i64) -> usize
-    requires { ⌜ (a < 10) × (b < 100) × (at + 84 ≤ length (now out)) ⌝ }
+    requires { ⌜ (a < 10) × (b < 100) × (at + 105 ≤ length (now out)) ⌝ }
     ensures { λ r. ⌜ (now (out .exit) ≡ sets (now (out .entry)) at (lineText (pos a ∷ pos b ∷ c ∷ d ∷ []))) × (r ≡ at + length (lineText (pos a ∷ pos b ∷ c ∷ d ∷ []))) ⌝ }
 {
     let p = put_head(out, at, a, b);
     let q = put_value(out, p, c, 32);
     put_value(out, q, d, 10)
+}
+
+// The same of five values, most of which have one digit where a constraint doesn't bind.
+fn put_five(out: &mut [u8], at: usize, a: u64, b: u64, c: i64, d: i64, e: i64) -> usize
+    requires { ⌜ (a < 10) × (b < 100) × (at + 105 ≤ length (now out)) ⌝ }
+    ensures { λ r. ⌜ (now (out .exit) ≡ sets (now (out .entry)) at (lineText (pos a ∷ pos b ∷ c ∷ d ∷ e ∷ []))) × (r ≡ at + length (lineText (pos a ∷ pos b ∷ c ∷ d ∷ e ∷ []))) ⌝ }
+{
+    let p = put_head(out, at, a, b);
+    let q = put_mark(out, p, c, 32);
+    let n = put_mark(out, q, d, 32);
+    put_mark(out, n, e, 10)
 }
 
 // Puts the line of the first k values at an offset, and answers the offset after it.
@@ -364,16 +394,16 @@ fn is_below(x: i64, n: u64) -> bool
     magnitude(x) < n
 }
 
-// Whether a line of four values has room, and begins with a digit and one digit more or two.
+// Whether a line of five values has room, and begins with a digit and one digit more or two.
 fn has_head(size: usize, at: usize, a: i64, b: i64) -> bool
-    ensures { λ r. ⌜ (r ≡ true → at + 84 ≤ size) ⌝ }
+    ensures { λ r. ⌜ (r ≡ true → at + 105 ≤ size) ⌝ }
     ensures { λ r. ⌜ (r ≡ true → (ltZ a (pos 0) ≡ false) × (natAbs a < 10)) ⌝ }
     ensures { λ r. ⌜ (r ≡ true → (ltZ b (pos 0) ≡ false) × (natAbs b < 100)) ⌝ }
 {
-    if size < 84 {
+    if size < 105 {
         return false;
     }
-    if size - 84 < at {
+    if size - 105 < at {
         return false;
     }
     if !is_below(a, 10) {
@@ -387,17 +417,21 @@ pub fn print_line(out: &mut [u8], at: usize, v: [i64; 5], k: usize) -> Printed
     ensures { λ r. ⌜ now (out .exit) ≡ printed (now (out .entry)) at (lineText (take k v)) ⌝ }
     ensures { λ r. ⌜ r ≡ printedTo (now (out .entry)) at (lineText (take k v)) ⌝ }
 {
-    if k != 4 {
-        return print_any(out, at, v, k);
-    }
     let a = v[0];
     let b = v[1];
     let c = v[2];
     let d = v[3];
+    let e = v[4];
+    if k < 4 {
+        return print_any(out, at, v, k);
+    }
     if !has_head(out.len(), at, a, b) {
         return print_any(out, at, v, k);
     }
-    Printed::To(put_step(out, at, magnitude(a), magnitude(b), c, d))
+    if k == 4 {
+        return Printed::To(put_step(out, at, magnitude(a), magnitude(b), c, d));
+    }
+    Printed::To(put_five(out, at, magnitude(a), magnitude(b), c, d, e))
 }
 
 // Puts a names line at an offset, where it fits, and answers the offset after it: the same offset where it doesn't.

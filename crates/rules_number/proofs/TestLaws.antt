@@ -33,10 +33,10 @@ not-above-exactly x = (
 )
 
 -- ---- where a text fits, and where not
-pub room-none : (length at width : ℕ) → length < at → false ≡ leb (at + width) length
+pub room-none : (length at width : ℕ) → length < width → false ≡ leb (at + width) length
 room-none length at width h = sym (lt-leb (at + width) length (omega arith))
 
-pub room-some : (length at width : ℕ) → at ≤ length → leb width (length - at) ≡ leb (at + width) length
+pub room-some : (length at width : ℕ) → width ≤ length → leb at (length - width) ≡ leb (at + width) length
 room-some length at width h =
-    ⊎-elim (λ k. le-leb width (length - at) (omega arith) ∙ sym (le-leb (at + width) length k)) (λ k. lt-leb width (length - at) (omega arith) ∙ sym (lt-leb (at + width) length k))
+    ⊎-elim (λ k. le-leb at (length - width) (omega arith) ∙ sym (le-leb (at + width) length k)) (λ k. lt-leb at (length - width) (omega arith) ∙ sym (lt-leb (at + width) length k))
     (le-or-lt (at + width) length)

@@ -51,15 +51,6 @@ module _ (s : List ℕ) (at : ℕ) (w : List ℕ) where
       none [] z = refl
       none (a ∷ w) z = absurd (omega arith)
 
-  pub names-past : length s ≤ at → (length w ≡ 0 → ⊥) → Nothing ≡ namesAt s at w
-  names-past h z =
-      let d = length-drop at s in
-      names-by false (starts-short w (drop at s) (above (length w) z (omega arith)))
-    where
-      above : (n : ℕ) → (n ≡ 0 → ⊥) → length (drop at s) ≡ 0 → length (drop at s) < n
-      above zero z e = absurd (z refl)
-      above (suc n) z e = omega arith
-
   pub names-short : length s - at < length w → Nothing ≡ namesAt s at w
   names-short h = let d = length-drop at s in names-by false (starts-short w (drop at s) (omega arith))
 

@@ -50,20 +50,31 @@ pub record Stage {A : Type 0} (r : Reader A) (s : List ℕ) (n at : ℕ) (x : A)
   pub few : n' + length (lines (drop at' s)) ≤ n + length (lines (drop at s))
   pub used : Used s n at n' at'
 
--- a table whose rows are those of `of`
+-- a table's rows, those of `of`, past its names
+pub table-rows : (of : List Line → List Row) → ((ls : List Line) → length (of ls) ≤ length ls)
+    → (s : List ℕ) (n at count at' : ℕ) → count ≡ length (of (lines (drop at s))) → at' ≡ at + bytesOf count (lines (drop at s))
+    → Stage (rows of) s n at (of (lines (drop at s))) (n + count) at'
+unfolding rows
+table-rows of fits s n at count at' ec en =
+    let ls = lines (drop at s) in
+    let er : lines (drop at' s) ≡ drop count ls = bytes-past s at count at' en in
+    let g = fits ls in
+    let d : length (lines (drop at' s)) ≡ length (drop count ls) = ap length er in
+    let l = length-drop count ls in
+    record {
+      is = ap (λ (k : ℕ). found (of ls) (n + k) (drop k ls)) (sym ec) ∙ ap (found (of ls) (n + count)) (sym er);
+      few = omega arith;
+      used = used-lines s n at count at' en (n + count) refl;
+    }
+
+-- the table with its names
 pub table : (names : String) (of : List Line → List Row) → isLine (bytes names) ≡ true → ((ls : List Line) → length (of ls) ≤ length ls)
     → (s : List ℕ) (n at q : ℕ) → At q ≡ namesAt s at (bytes names) → (count at' : ℕ) → count ≡ length (of (lines (drop q s))) → at' ≡ q + bytesOf count (lines (drop q s))
     → Stage (headed names (rows of)) s n at (of (lines (drop q s))) (n + 1 + count) at'
-unfolding rows
 table names of w fits s n at q e count at' ec en =
-    let ls = lines (drop q s) in
-    let er : lines (drop at' s) ≡ drop count (lines (drop q s)) = bytes-past s q count at' en in
-    let f = names-few names s at w q e in
-    let g = fits (lines (drop q s)) in
-    let d : length (lines (drop at' s)) ≡ length (drop count (lines (drop q s))) = ap length er in
-    let l = length-drop count (lines (drop q s)) in
+    let t = table-rows of fits s (n + 1) q count at' ec en in
     record {
-      is = past-names names (rows of) n s at w q e ∙ ap (λ (k : ℕ). found (of ls) (n + 1 + k) (drop k ls)) (sym ec) ∙ ap (found (of ls) (n + 1 + count)) (sym er);
-      few = omega arith;
-      used = used-then (used-names names s n at w q e) (used-lines s (n + 1) q count at' en (n + 1 + count) refl);
+      is = past-names names (rows of) n s at w q e ∙ t .is;
+      few = omega (arith, t .few, names-few names s at w q e);
+      used = used-then (used-names names s n at w q e) (t .used);
     }

@@ -22,7 +22,7 @@ use Rattle.rules_library.specs.Slices.{cellAt}
 use Rattle.state_cells.proofs.FloorLaws.{floors-at}
 use Rattle.mitigated_cells.proofs.RowLaws.{steps-few}
 use Rattle.curve_page.proofs.LineLaws.{rows-are}
-use Rattle.line_copies.specs.Lines.{widthOf, headed, linesAgain}
+use Rattle.line_copies.specs.Lines.{widthOf, linesAgain}
 use Rattle.line_copies.proofs.HeadLaws.{sets-back, sets-same, kept-before, kept-after, headed-length}
 use Rattle.line_copies.proofs.GroupLines.{width-same, group-copied}
 use Rattle.page.proofs.PageLaws.{small-printable}
@@ -39,24 +39,24 @@ rows-short st r =
     omega (arith, e, steps-few st r)
 
 -- ---- the two cells of resource r
-pub set-room : {A : Type 0} (l : List A) (r : ℕ) (x : A) → r < mostResources → length l ≡ mostResources + mostResources → mostResources + r < length (set l r x)
-set-room l r x h e = omega (arith, h, e, length-set l r x)
+pub set-room : {A : Type 0} (l : List A) (r : ℕ) (x : A) → 2 * r + 1 < length l → 2 * r + 1 < length (set l (2 * r) x)
+set-room l r x h = omega (arith, h, length-set l (2 * r) x)
 
-module _ {A : Type 0} (d : A) (l : List A) (r : ℕ) (a b : A) (h : r < mostResources) where
+module _ {A : Type 0} (d : A) (l : List A) (r : ℕ) (a b : A) where
   abbrev pairSet : List A
-  pairSet = set (set l r a) (mostResources + r) b
+  pairSet = set (set l (2 * r) a) (2 * r + 1) b
 
-  pair-first : length l ≡ mostResources + mostResources → getD pairSet r d ≡ a
-  pair-first long = getD-set-other (set l r a) (mostResources + r) r b d (λ e. omega arith) ∙ getD-set-same l r a d (omega (arith, long, h))
+  pair-first : 2 * r + 1 < length l → getD pairSet (2 * r) d ≡ a
+  pair-first h = getD-set-other (set l (2 * r) a) (2 * r + 1) (2 * r) b d (λ e. omega arith) ∙ getD-set-same l (2 * r) a d (omega (arith, h))
 
-  pair-second : length l ≡ mostResources + mostResources → getD pairSet (mostResources + r) d ≡ b
-  pair-second long = getD-set-same (set l r a) (mostResources + r) b d (omega (arith, long, h, length-set l r a))
+  pair-second : 2 * r + 1 < length l → getD pairSet (2 * r + 1) d ≡ b
+  pair-second h = getD-set-same (set l (2 * r) a) (2 * r + 1) b d (set-room l r a h)
 
-  other-first : (k : ℕ) → k < mostResources → (k ≡ r → ⊥) → getD pairSet k d ≡ getD l k d
-  other-first k m n = getD-set-other (set l r a) (mostResources + r) k b d (λ e. omega arith) ∙ getD-set-other l r k a d n
+  other-first : (k : ℕ) → (k ≡ r → ⊥) → getD pairSet (2 * k) d ≡ getD l (2 * k) d
+  other-first k n = getD-set-other (set l (2 * r) a) (2 * r + 1) (2 * k) b d (λ e. omega arith) ∙ getD-set-other l (2 * r) (2 * k) a d (λ e. n (omega arith))
 
-  other-second : (k : ℕ) → (k ≡ r → ⊥) → getD pairSet (mostResources + k) d ≡ getD l (mostResources + k) d
-  other-second k n = getD-set-other (set l r a) (mostResources + r) (mostResources + k) b d (λ e. n (omega arith)) ∙ getD-set-other l r (mostResources + k) a d (λ e. omega arith)
+  other-second : (k : ℕ) → (k ≡ r → ⊥) → getD pairSet (2 * k + 1) d ≡ getD l (2 * k + 1) d
+  other-second k n = getD-set-other (set l (2 * r) a) (2 * r + 1) (2 * k + 1) b d (λ e. n (omega arith)) ∙ getD-set-other l (2 * r) (2 * k + 1) a d (λ e. omega arith)
 
 -- ---- lines of one resource
 -- rows are as wide in one interval as in another
@@ -127,34 +127,36 @@ moved {r} {page} {end} {widths} {base} l m from to n k e f g w =
 
 -- ---- lines of all resources
 -- none were put
-pub kept-start : (rows : List engine.Row) (page : List ℕ) (end : ℕ) (shown : List ℤ) (widths : List ℕ) → Kept rows page end shown (replicate (mostResources + mostResources) 0) widths
-kept-start rows page end shown widths =
-    record { stands = λ r m s. absurd (omega (arith, s, getD-replicate {A = ℕ} (mostResources + mostResources) (mostResources + r) 0 0 (omega (arith, m)))) }
+pub kept-start : {most : ℕ} {shown : List ℤ} {lines widths : List ℕ} → Rooms most shown lines widths → lines ≡ replicate (length lines) 0 → (rows : List engine.Row) (page : List ℕ) (end : ℕ)
+    → Kept most rows page end shown lines widths
+kept-start {most} {shown} {lines} {widths} w e rows page end =
+    record { stands = λ r m s. absurd (omega (arith, s, ap (λ (l : List ℕ). getD l (2 * r + 1) 0) e, getD-replicate {A = ℕ} (length lines) (2 * r + 1) 0 0 (omega (arith, m, w .places)))) }
 
-module _ {rows : List engine.Row} {page : List ℕ} {end : ℕ} {shown : List ℤ} {lines widths : List ℕ} (w : Kept rows page end shown lines widths) where
-  pub kept-past : (t put : List ℕ) (next : ℕ) → put ≡ sets page end t → end ≤ next → Kept rows put next shown lines widths
+module _ {most : ℕ} {rows : List engine.Row} {page : List ℕ} {end : ℕ} {shown : List ℤ} {lines widths : List ℕ} (w : Kept most rows page end shown lines widths) where
+  pub kept-past : (t put : List ℕ) (next : ℕ) → put ≡ sets page end t → end ≤ next → Kept most rows put next shown lines widths
   kept-past t put next e h = record { stands = λ r m s. stands-past (w .stands r m s) t put next e h }
 
-  pub kept-rows : (same : List engine.Row) → rows ≡ same → Kept same page end shown lines widths
-  kept-rows same e = subst (λ (x : List engine.Row). Kept x page end shown lines widths) e w
+  pub kept-rows : (many : ℕ) (same : List engine.Row) → most ≡ many → rows ≡ same → Kept many same page end shown lines widths
+  kept-rows many same e f =
+      subst (λ (n : ℕ). Kept n same page end shown lines widths) e (subst (λ (x : List engine.Row). Kept most x page end shown lines widths) f w)
 
-  module _ (i r : ℕ) (hi : i < 10) (h : r < mostResources) (room : end + curveBytes ≤ length page) where
+  module _ (i r : ℕ) (hi : i < 10) (h : r < most) (room : end + curveBytes ≤ length page) (rooms : Rooms most shown lines widths) where
     -- those of resource r are copied
-    pub put-copied : length widths ≡ mostMitigatedSteps * mostResources → (floor : Floor) → floorShown shown r ≡ floor → 0 < lengthOf lines r → (put : List ℕ) (q : ℕ)
+    pub put-copied : (floor : Floor) → floorShown shown r ≡ floor → 0 < lengthOf lines r → (put : List ℕ) (q : ℕ)
         → put ≡ sets page end (linesAgain page (placeOf lines r) (lengthOf lines r) widths (mostMitigatedSteps * r) (48 + i)) → q ≡ end + lengthOf lines r
         → Put curveBytes page end (groupText (printable i) r (rowsAt rows r floor)) put q × (widths ≡ sets widths (mostMitigatedSteps * r) (map (widthOf (printable i) r) (rowsAt rows r floor)))
-    put-copied long floor e s put q f g =
+    put-copied floor e s put q f g =
         subst (λ (j : ℕ). Put curveBytes page end (groupText j r (rowsAt rows r floor)) put q × (widths ≡ sets widths (mostMitigatedSteps * r) (map (widthOf j r) (rowsAt rows r floor)))) (sym (small-printable i (omega (arith, hi))))
         (subst (λ (x : Floor). Put curveBytes page end (groupText i r (rowsAt rows r x)) put q × (widths ≡ sets widths (mostMitigatedSteps * r) (map (widthOf i r) (rowsAt rows r x)))) e
-        (copied-at (w .stands r h s) i hi room (omega (arith, long, h)) put q f g))
+        (copied-at (w .stands r h s) i hi room (omega (arith, rooms .wide, h)) put q f g))
 
     -- and kept
-    module _ (rooms : Rooms shown lines widths) (a b : ℤ) (l : List Row) (is : l ≡ rowsAt rows r (floorOf a b)) (short : length l ≤ mostMitigatedSteps) (put : List ℕ) (q : ℕ) (p : Put curveBytes page end (groupText i r l) put q) where
+    module _ (a b : ℤ) (l : List Row) (is : l ≡ rowsAt rows r (floorOf a b)) (short : length l ≤ mostMitigatedSteps) (put : List ℕ) (q : ℕ) (p : Put curveBytes page end (groupText i r l) put q) where
       abbrev shownAfter : List ℤ
-      shownAfter = set (set shown r a) (mostResources + r) b
+      shownAfter = set (set shown (2 * r) a) (2 * r + 1) b
 
       abbrev linesAfter : List ℕ
-      linesAfter = set (set lines r end) (mostResources + r) (q - end)
+      linesAfter = set (set lines (2 * r) end) (2 * r + 1) (q - end)
 
       abbrev widthsAfter : List ℕ
       widthsAfter = sets widths (mostMitigatedSteps * r) (map (widthOf i r) l)
@@ -164,9 +166,9 @@ module _ {rows : List engine.Row} {page : List ℕ} {end : ℕ} {shown : List �
 
       own : Here r
       own =
-          let f : floorOf a b ≡ floorShown shownAfter r = sym (ap₂ floorOf (pair-first (pos 0) shown r a b h (rooms .floors)) (pair-second (pos 0) shown r a b h (rooms .floors))) in
+          let f : floorOf a b ≡ floorShown shownAfter r = sym (ap₂ floorOf (pair-first (pos 0) shown r a b (omega (arith, rooms .floors, h))) (pair-second (pos 0) shown r a b (omega (arith, rooms .floors, h)))) in
           moved l (rowsAt rows r (floorShown shownAfter r)) end (placeOf linesAfter r) (q - end) (lengthOf linesAfter r) (is ∙ ap (rowsAt rows r) f)
-          (sym (pair-first 0 lines r end (q - end) h (rooms .places))) (sym (pair-second 0 lines r end (q - end) h (rooms .places)))
+          (sym (pair-first 0 lines r end (q - end) (omega (arith, rooms .places, h)))) (sym (pair-second 0 lines r end (q - end) (omega (arith, rooms .places, h))))
           (stands-new l r i page put end q widths (mostMitigatedSteps * r) hi short room (omega (arith, rooms .wide, h)) p)
 
       -- the widths of another stand elsewhere
@@ -174,27 +176,38 @@ module _ {rows : List engine.Row} {page : List ℕ} {end : ℕ} {shown : List �
       elsewhere k n =
           ⊎-elim (λ x. ⊎-elim (λ y. absurd (n (omega (arith, x, y)))) (λ y. inr (omega (arith, y))) (le-or-lt r k)) (λ y. inl (omega (arith, y, short, length-map l (widthOf i r)))) (le-or-lt k r)
 
-      another : (k : ℕ) → k < mostResources → (k ≡ r → ⊥) → 0 < lengthOf linesAfter k → Here k
+      another : (k : ℕ) → k < most → (k ≡ r → ⊥) → 0 < lengthOf linesAfter k → Here k
       another k m n s =
-          let f : floorShown shown k ≡ floorShown shownAfter k = sym (ap₂ floorOf (other-first (pos 0) shown r a b h k m n) (other-second (pos 0) shown r a b h k n)) in
-          let x = other-second 0 lines r end (q - end) h k n in
+          let f : floorShown shown k ≡ floorShown shownAfter k = sym (ap₂ floorOf (other-first (pos 0) shown r a b k n) (other-second (pos 0) shown r a b k n)) in
+          let x = other-second 0 lines r end (q - end) k n in
           moved (rowsAt rows k (floorShown shown k)) (rowsAt rows k (floorShown shownAfter k)) (placeOf lines k) (placeOf linesAfter k) (lengthOf lines k) (lengthOf linesAfter k) (ap (rowsAt rows k) f)
-          (sym (other-first 0 lines r end (q - end) h k m n)) (sym x)
+          (sym (other-first 0 lines r end (q - end) k n)) (sym x)
           (stands-past (stands-beside (w .stands k m (subst (λ (z : ℕ). 0 < z) x s)) (mostMitigatedSteps * r) (map (widthOf i r) l) widthsAfter refl (elsewhere k n)) (groupText i r l) put q (p .buffer) (omega (arith, p .next)))
 
-      kept-after-all : Kept rows put q shownAfter linesAfter widthsAfter
+      kept-after-all : Kept most rows put q shownAfter linesAfter widthsAfter
       kept-after-all = record { stands = λ k m s. go k m s (ℕ-discrete k r) }
         where
-          go : (k : ℕ) → k < mostResources → 0 < lengthOf linesAfter k → Dec (k ≡ r) → Here k
+          go : (k : ℕ) → k < most → 0 < lengthOf linesAfter k → Dec (k ≡ r) → Here k
           go k m s (yes e) = subst Here (sym e) own
           go k m s (no n) = another k m n s
 
-      pub kept-next : (shown' : List ℤ) (lines' widths' : List ℕ) → shown' ≡ shownAfter → lines' ≡ linesAfter → widths' ≡ widthsAfter → Kept rows put q shown' lines' widths'
+      pub kept-next : (shown' : List ℤ) (lines' widths' : List ℕ) → shown' ≡ shownAfter → lines' ≡ linesAfter → widths' ≡ widthsAfter → Kept most rows put q shown' lines' widths'
       kept-next shown' lines' widths' e f g =
-          subst (λ (x : List ℤ). Kept rows put q x lines' widths') (sym e)
-          (subst (λ (x : List ℕ). Kept rows put q shownAfter x widths') (sym f) (subst (λ (x : List ℕ). Kept rows put q shownAfter linesAfter x) (sym g) kept-after-all))
+          subst (λ (x : List ℤ). Kept most rows put q x lines' widths') (sym e)
+          (subst (λ (x : List ℕ). Kept most rows put q shownAfter x widths') (sym f) (subst (λ (x : List ℕ). Kept most rows put q shownAfter linesAfter x) (sym g) kept-after-all))
 
 -- the lists are as long as they were
-pub rooms-next : {shown : List ℤ} {lines widths : List ℕ} → Rooms shown lines widths → (shown' : List ℤ) (lines' widths' : List ℕ) → length shown' ≡ length shown → length lines' ≡ length lines → length widths' ≡ length widths
-    → Rooms shown' lines' widths'
-rooms-next w shown' lines' widths' e f g = record { floors = e ∙ w .floors; places = f ∙ w .places; wide = g ∙ w .wide }
+pub record SameLong (shown : List ℤ) (lines widths : List ℕ) (shown' : List ℤ) (lines' widths' : List ℕ) : Type 0 where
+  pub floors : length shown' ≡ length shown
+  pub places : length lines' ≡ length lines
+  pub wide : length widths' ≡ length widths
+
+pub long-start : {shown : List ℤ} {lines widths : List ℕ} → SameLong shown lines widths shown lines widths
+long-start = record { floors = refl; places = refl; wide = refl }
+
+module _ {shown : List ℤ} {lines widths : List ℕ} {shown' : List ℤ} {lines' widths' : List ℕ} (s : SameLong shown lines widths shown' lines' widths') where
+  pub long-next : (x : List ℤ) (y z : List ℕ) → length x ≡ length shown' → length y ≡ length lines' → length z ≡ length widths' → SameLong shown lines widths x y z
+  long-next x y z e f g = record { floors = e ∙ s .floors; places = f ∙ s .places; wide = g ∙ s .wide }
+
+  pub rooms-next : {most : ℕ} → Rooms most shown lines widths → (many : ℕ) → most ≡ many → Rooms many shown' lines' widths'
+  rooms-next w many e = record { floors = omega (arith, w .floors, s .floors, e); places = omega (arith, w .places, s .places, e); wide = omega (arith, w .wide, s .wide, e) }

@@ -12,7 +12,6 @@ use Rattle.rules_text.specs.Numbers.{Row}
 use Rattle.rules_text.specs.Printing.{groupText}
 use Rattle.rules_page.specs.Pages.{curveBytes, stepRow}
 use Rattle.rules_library.specs.Slices.{cellAt}
-use Rattle.rules_state.specs.Layout.{mostResources}
 use Rattle.rules_state.specs.States.{floorOf}
 use Rattle.line_copies.specs.Lines.{widthOf}
 
@@ -20,16 +19,16 @@ use Rattle.line_copies.specs.Lines.{widthOf}
 abbrev pub rowsAt : List engine.Row → ℕ → Floor → List Row
 rowsAt rows r floor = map stepRow (usedSteps (rowCurve (getD rows r noRow) floor))
 
--- the floor price at which the lines of resource r were put: a mark for each resource, then a price for each
+-- the floor price at which the lines of resource r were put: a mark and a price for each resource in turn
 abbrev pub floorShown : List ℤ → ℕ → Floor
-floorShown shown r = floorOf (cellAt shown r) (cellAt shown (mostResources + r))
+floorShown shown r = floorOf (cellAt shown (2 * r)) (cellAt shown (2 * r + 1))
 
--- where the lines of resource r begin, and how many bytes they take: an offset for each resource, then a length for each
+-- where the lines of resource r begin, and how many bytes they take: an offset and a length for each resource in turn
 abbrev pub placeOf : List ℕ → ℕ → ℕ
-placeOf lines r = getD lines r 0
+placeOf lines r = getD lines (2 * r) 0
 
 abbrev pub lengthOf : List ℕ → ℕ → ℕ
-lengthOf lines r = getD lines (mostResources + r) 0
+lengthOf lines r = getD lines (2 * r + 1) 0
 
 -- the n bytes at an offset, all before `end`, are the lines of group r in a table of some interval of one digit, and their widths stand from an index on
 pub record Stands (l : List Row) (r : ℕ) (page : List ℕ) (end from n : ℕ) (widths : List ℕ) (base : ℕ) : Type 0 where
@@ -41,13 +40,13 @@ pub record Stands (l : List Row) (r : ℕ) (page : List ℕ) (end from n : ℕ) 
   pub short : length l ≤ mostMitigatedSteps
   pub wide : take (length l) (drop base widths) ≡ map (widthOf interval r) l
 
--- so do those of each resource whose lines were put
-pub record Kept (rows : List engine.Row) (page : List ℕ) (end : ℕ) (shown : List ℤ) (lines widths : List ℕ) : Type 0 where
-  pub stands : (r : ℕ) → r < mostResources → 0 < lengthOf lines r
+-- so do those of each of k resources whose lines were put
+pub record Kept (k : ℕ) (rows : List engine.Row) (page : List ℕ) (end : ℕ) (shown : List ℤ) (lines widths : List ℕ) : Type 0 where
+  pub stands : (r : ℕ) → r < k → 0 < lengthOf lines r
       → Stands (rowsAt rows r (floorShown shown r)) r page end (placeOf lines r) (lengthOf lines r) widths (mostMitigatedSteps * r)
 
--- the lists have room for each resource
-pub record Rooms (shown : List ℤ) (lines widths : List ℕ) : Type 0 where
-  pub floors : length shown ≡ mostResources + mostResources
-  pub places : length lines ≡ mostResources + mostResources
-  pub wide : length widths ≡ mostMitigatedSteps * mostResources
+-- the lists have room for k resources
+pub record Rooms (k : ℕ) (shown : List ℤ) (lines widths : List ℕ) : Type 0 where
+  pub floors : 2 * k ≤ length shown
+  pub places : 2 * k ≤ length lines
+  pub wide : mostMitigatedSteps * k ≤ length widths

@@ -1,5 +1,5 @@
 -- What a part of a text did to the cells of an hour.
-use Prim.Native.Nat.{ℕ, _<_}
+use Prim.Native.Nat.{ℕ, _+_, _*_, _≤_, _<_}
 use mathlib.Core.Path.{_≡_}
 use mathlib.Core.List.{List}
 use lib.ListN.{drop, replicate, length}
@@ -12,9 +12,12 @@ use Rattle.rules_hour.specs.Hours.{callRefusal}
 use Rattle.rules_text.specs.Numbers.{Line, lines}
 use Rattle.rules_text.specs.Tables.{faulty, found}
 use Rattle.rules_parts.specs.Parts.{readInterval, readOpening}
+use Rattle.rules_run.specs.Run.{partsText, endedBy, partsEnd}
+use Rattle.rules_state.specs.Layout.{rowsFrom, rowRoom}
 use Rattle.rules_state.specs.States.{standingIn, marketIn}
 use Rattle.rules_state.specs.Takes.{standingWritten, openedCells}
 use Rattle.rules_state.specs.Verdicts.{judgedCells}
+use Rattle.run.specs.Kept.{Rooms}
 
 -- an interval's part: a faulty line, a refusal, or the hour after it and its verdicts
 pub data Took (s : List ℕ) (at line : ℕ) (state after verdicts left : List ℤ) (number last next constraints : ℕ) : Type 0 where
@@ -31,3 +34,17 @@ pub data OpenedBy (s : List ℕ) (state after : List ℤ) (number last next reso
   unopened : (o : Opening) (rest : List Line) → readOpening 0 (lines s) ≡ found o last rest → openingRefusal o ≡ number → 0 < number → resources ≡ 0 → OpenedBy s state after number last next resources
   opened : (o : Opening) → readOpening 0 (lines s) ≡ found o last (lines (drop next s)) → number ≡ 0 → openingRefusal o ≡ 0 → resources ≡ o .resources → after ≡ sets state 0 (openedCells o)
       → OpenedBy s state after number last next resources
+
+-- the cells of an hour that was opened in zeros, with room for its resources' lines, of which none was put
+pub record Ready (s : List ℕ) (state shown : List ℤ) (lines widths : List ℕ) (number last next resources : ℕ) : Type 0 where
+  pub room : rowsFrom + rowRoom * resources ≤ length state
+  pub rooms : Rooms resources shown lines widths
+  pub none : lines ≡ replicate (length lines) 0
+  pub opened : OpenedBy s (replicate (length state) (pos 0)) state number last next resources
+
+-- what the text s prints was put on a page, and ends so
+pub record PartsPut (s page put : List ℕ) (at number line : ℕ) : Type 0 where
+  pub buffer : put ≡ sets page 0 (partsText (lines s))
+  pub next : at ≡ length (partsText (lines s))
+  pub few : at ≤ 655424
+  pub end : endedBy number line ≡ partsEnd (lines s)

@@ -9,7 +9,6 @@ ghost use mathlib.Core.Bool.{true};
 ghost use mathlib.Core.List.{map};
 ghost use Prim.Native.Nat.{_+_, _-_, _*_, _≤_, _<_};
 ghost use lib.ListN.{length, drop, replicate, set, getD};
-ghost use lib.IntN.{pos};
 ghost use lib.Seq.{sets};
 ghost use Rattle.rules_text.specs.Numbers.{lines};
 ghost use Rattle.rules_text.specs.Printing.{refusalText, groupText};
@@ -18,11 +17,11 @@ ghost use Rattle.rules_hour.specs.Hours.{uncut};
 ghost use Rattle.rules_page.specs.Pages.{verdictText, curveText, curveTable, curveRows, curveBytes, curvesBytes, printable, Put};
 ghost use Rattle.rules_library.specs.Slices.{cellAt};
 ghost use Rattle.line_copies.specs.Lines.{widthOf, linesAgain};
-ghost use Rattle.rules_state.specs.Layout.{mostResources, rowsFrom, rowRoom, verdictRoom};
+ghost use Rattle.rules_state.specs.Layout.{mostResources, rowsFrom, verdictRoom};
 ghost use Rattle.rules_state.specs.States.{hourIn, standingIn, marketIn, rowsIn};
 ghost use Rattle.rules_state.specs.Verdicts.{verdictsIn};
-ghost use Rattle.rules_run.specs.Run.{hourText, partsText, output, endedBy, hourEnd, partsEnd, endOf, runRoom, ranWithin, ranTo};
-ghost use Rattle.run.specs.Took.{OpenedBy};
+ghost use Rattle.rules_run.specs.Run.{hourText, output, endedBy, hourEnd, endOf, runRoom, ranWithin, ranTo};
+ghost use Rattle.run.specs.Took.{Ready, PartsPut};
 ghost use Rattle.run.specs.Kept.{floorShown, lengthOf, Kept, Rooms};
 
 // Room for what any text prints: four pages and the lines of a refusal.
@@ -55,13 +54,17 @@ fn put_refusal(out: &mut [u8], at: usize, number: u64, line: usize) -> Ending
     }
 }
 
-// An hour of so many resources has its cells in a short state.
-const FEW_RESOURCES: usize = 4;
+// A text of at most so many bytes has most likely one resource.
+const ONE_BYTES: usize = 1024;
+
+const ONE_CELLS: usize = rules_state::ROWS_FROM + rules_state::ROW_ROOM;
+
+// A text of at most so many bytes has most likely no more than so many resources.
+const FEW_BYTES: usize = 4096;
+
+const FEW_RESOURCES: usize = 8;
 
 const FEW_CELLS: usize = rules_state::ROWS_FROM + FEW_RESOURCES * rules_state::ROW_ROOM;
-
-// A longer text has most likely more resources.
-const FEW_BYTES: usize = 4096;
 
 // Puts what an interval says of its constraints at an offset, and answers the offset after it.
 fn put_verdicts(
@@ -82,7 +85,7 @@ fn put_verdicts(
 
 // Puts the lines of the curve of resource r that interval i leaves, and the width of each, and answers the offset after them.
 fn put_fresh(out: &mut [u8], at: usize, i: u64, r: usize, state: &[i64], widths: &mut [u8]) -> usize
-    requires { ⌜ (at + curveBytes ≤ length (now out)) × ((r < mostResources) × (length (now widths) ≡ mostMitigatedSteps * mostResources)) ⌝ }
+    requires { ⌜ (at + curveBytes ≤ length (now out)) × ((r < mostResources) × (mostMitigatedSteps * r + mostMitigatedSteps ≤ length (now widths))) ⌝ }
     ensures page { λ q. ⌜ Put curveBytes (now (out .entry)) at (groupText (printable i) r (curveRows (rowsIn (now (state .entry))) (standingIn (now (state .entry)) .floors) r)) (now (out .exit)) q ⌝ }
     ensures widths { λ q. ⌜ now (widths .exit) ≡ sets (now (widths .entry)) (mostMitigatedSteps * r) (map (widthOf (printable i) r) (curveRows (rowsIn (now (state .entry))) (standingIn (now (state .entry)) .floors) r)) ⌝ }
 {
@@ -120,20 +123,17 @@ fn is_same(a: i64, b: i64) -> bool
 }
 
 // Whether the lines of resource r were put at the floor price that it has.
-fn is_shown(state: &[i64], shown: &[i64], lines: &[usize], r: usize) -> bool
-    requires { ⌜ (r < mostResources) × ((rowsFrom ≤ length (now state)) × ((length (now shown) ≡ mostResources + mostResources) × (length (now lines) ≡ mostResources + mostResources))) ⌝ }
-    ensures { λ x. ⌜ (x ≡ true → (0 < lengthOf (now (lines .entry)) r) × (floorShown (now (shown .entry)) r ≡ getD (standingIn (now (state .entry)) .floors) r uncut)) ⌝ }
+fn is_shown(state: &[i64], shown: &[i64], places: &[usize], r: usize) -> bool
+    requires { ⌜ (r < mostResources) × ((rowsFrom ≤ length (now state)) × ((2 * r + 1 < length (now shown)) × (2 * r + 1 < length (now places)))) ⌝ }
+    ensures { λ x. ⌜ (x ≡ true → (0 < lengthOf (now (places .entry)) r) × (floorShown (now (shown .entry)) r ≡ getD (standingIn (now (state .entry)) .floors) r uncut)) ⌝ }
 {
-    if lines[Interval::MAX_RESOURCES + r] == 0 {
+    if places[2 * r + 1] == 0 {
         return false;
     }
-    if !is_same(shown[r], state[1 + r]) {
+    if !is_same(shown[2 * r], state[1 + r]) {
         return false;
     }
-    is_same(
-        shown[Interval::MAX_RESOURCES + r],
-        state[1 + Interval::MAX_RESOURCES + r],
-    )
+    is_same(shown[2 * r + 1], state[1 + Interval::MAX_RESOURCES + r])
 }
 
 // Puts the lines of the curve of resource r that interval i leaves: as they stand on the page already where its floor price is the same.
@@ -144,20 +144,28 @@ fn put_lines(
     r: usize,
     state: &[i64],
     shown: &[i64],
-    lines: &[usize],
+    places: &[usize],
     widths: &mut [u8],
 ) -> usize
-    requires room { ⌜ (at + curveBytes ≤ length (now out)) × ((r < mostResources) × ((i < 10) × (rowsFrom ≤ length (now state)))) ⌝ }
-    requires rooms { ⌜ Rooms (now shown) (now lines) (now widths) ⌝ }
-    requires kept { ⌜ Kept (rowsIn (now state)) (now out) at (now shown) (now lines) (now widths) ⌝ }
+    requires room { ⌜ (at + curveBytes ≤ length (now out)) × ((r < mostResources) × ((r < marketIn (now state) .resources) × ((i < 10) × (rowsFrom ≤ length (now state))))) ⌝ }
+    requires rooms { ⌜ Rooms (marketIn (now state) .resources) (now shown) (now places) (now widths) ⌝ }
+    requires kept { ⌜ Kept (marketIn (now state) .resources) (rowsIn (now state)) (now out) at (now shown) (now places) (now widths) ⌝ }
     ensures page { λ q. ⌜ Put curveBytes (now (out .entry)) at (groupText (printable i) r (curveRows (rowsIn (now (state .entry))) (standingIn (now (state .entry)) .floors) r)) (now (out .exit)) q ⌝ }
     ensures widths { λ q. ⌜ now (widths .exit) ≡ sets (now (widths .entry)) (mostMitigatedSteps * r) (map (widthOf (printable i) r) (curveRows (rowsIn (now (state .entry))) (standingIn (now (state .entry)) .floors) r)) ⌝ }
 {
-    if !is_shown(state, shown, lines, r) {
+    if !is_shown(state, shown, places, r) {
         return put_fresh(out, at, i, r, state, widths);
     }
-    let n = lines[Interval::MAX_RESOURCES + r];
-    put_again(out, lines[r], at, n, widths, Mitigated::MAX_STEPS * r, i)
+    let n = places[2 * r + 1];
+    put_again(
+        out,
+        places[2 * r],
+        at,
+        n,
+        widths,
+        Mitigated::MAX_STEPS * r,
+        i,
+    )
 }
 
 // Keeps where the lines of resource r stand, and at which floor price.
@@ -167,16 +175,16 @@ fn keep_lines(
     at: usize,
     next: usize,
     shown: &mut [i64],
-    lines: &mut [usize],
+    places: &mut [usize],
 )
-    requires { ⌜ (r < mostResources) × ((at ≤ next) × ((rowsFrom ≤ length (now state)) × ((length (now shown) ≡ mostResources + mostResources) × (length (now lines) ≡ mostResources + mostResources)))) ⌝ }
-    ensures shown { λ x. ⌜ now (shown .exit) ≡ set (set (now (shown .entry)) r (cellAt (now (state .entry)) (1 + r))) (mostResources + r) (cellAt (now (state .entry)) (1 + mostResources + r)) ⌝ }
-    ensures lines { λ x. ⌜ now (lines .exit) ≡ set (set (now (lines .entry)) r at) (mostResources + r) (next - at) ⌝ }
+    requires { ⌜ (r < mostResources) × ((at ≤ next) × ((rowsFrom ≤ length (now state)) × ((2 * r + 1 < length (now shown)) × (2 * r + 1 < length (now places))))) ⌝ }
+    ensures shown { λ x. ⌜ now (shown .exit) ≡ set (set (now (shown .entry)) (2 * r) (cellAt (now (state .entry)) (1 + r))) (2 * r + 1) (cellAt (now (state .entry)) (1 + mostResources + r)) ⌝ }
+    ensures places { λ x. ⌜ now (places .exit) ≡ set (set (now (places .entry)) (2 * r) at) (2 * r + 1) (next - at) ⌝ }
 {
-    shown[r] = state[1 + r];
-    shown[Interval::MAX_RESOURCES + r] = state[1 + Interval::MAX_RESOURCES + r];
-    lines[r] = at;
-    lines[Interval::MAX_RESOURCES + r] = next - at;
+    shown[2 * r] = state[1 + r];
+    shown[2 * r + 1] = state[1 + Interval::MAX_RESOURCES + r];
+    places[2 * r] = at;
+    places[2 * r + 1] = next - at;
 }
 
 // Puts the lines of all curves that interval i leaves, and answers the offset after them.
@@ -186,22 +194,22 @@ fn put_table(
     i: u64,
     state: &[i64],
     shown: &mut [i64],
-    lines: &mut [usize],
+    places: &mut [usize],
     widths: &mut [u8],
 ) -> usize
     requires room { ⌜ (at + curvesBytes ≤ length (now out)) × ((i < 10) × (rowsFrom ≤ length (now state))) ⌝ }
-    requires rooms { ⌜ Rooms (now shown) (now lines) (now widths) ⌝ }
-    requires kept { ⌜ Kept (rowsIn (now state)) (now out) at (now shown) (now lines) (now widths) ⌝ }
+    requires rooms { ⌜ Rooms (marketIn (now state) .resources) (now shown) (now places) (now widths) ⌝ }
+    requires kept { ⌜ Kept (marketIn (now state) .resources) (rowsIn (now state)) (now out) at (now shown) (now places) (now widths) ⌝ }
     ensures page { λ q. ⌜ Put curvesBytes (now (out .entry)) at (curveTable i (marketIn (now (state .entry)) .resources) (rowsIn (now (state .entry))) (standingIn (now (state .entry)) .floors)) (now (out .exit)) q ⌝ }
-    ensures kept { λ q. ⌜ Kept (rowsIn (now (state .entry))) (now (out .exit)) q (now (shown .exit)) (now (lines .exit)) (now (widths .exit)) ⌝ }
+    ensures kept { λ q. ⌜ Kept (marketIn (now (state .entry)) .resources) (rowsIn (now (state .entry))) (now (out .exit)) q (now (shown .exit)) (now (places .exit)) (now (widths .exit)) ⌝ }
 {
     let resources = cells::whole_at(state, rules_state::MARKET_FROM) as usize;
     let n = number::at_most(resources, Interval::MAX_RESOURCES);
     let mut p = at;
     let mut r: usize = 0;
     while r < n {
-        let next = put_lines(out, p, i, r, state, shown, lines, widths);
-        keep_lines(state, r, p, next, shown, lines);
+        let next = put_lines(out, p, i, r, state, shown, places, widths);
+        keep_lines(state, r, p, next, shown, places);
         p = next;
         r += 1;
     }
@@ -215,17 +223,17 @@ fn put_curves(
     i: u64,
     state: &[i64],
     shown: &mut [i64],
-    lines: &mut [usize],
+    places: &mut [usize],
     widths: &mut [u8],
 ) -> usize
     requires room { ⌜ (at + 114688 ≤ length (now out)) × ((i < 10) × (rowsFrom ≤ length (now state))) ⌝ }
-    requires rooms { ⌜ Rooms (now shown) (now lines) (now widths) ⌝ }
-    requires kept { ⌜ Kept (rowsIn (now state)) (now out) at (now shown) (now lines) (now widths) ⌝ }
+    requires rooms { ⌜ Rooms (marketIn (now state) .resources) (now shown) (now places) (now widths) ⌝ }
+    requires kept { ⌜ Kept (marketIn (now state) .resources) (rowsIn (now state)) (now out) at (now shown) (now places) (now widths) ⌝ }
     ensures page { λ q. ⌜ Put 114688 (now (out .entry)) at (curveText i (marketIn (now (state .entry)) .resources) (rowsIn (now (state .entry))) (standingIn (now (state .entry)) .floors)) (now (out .exit)) q ⌝ }
-    ensures kept { λ q. ⌜ Kept (rowsIn (now (state .entry))) (now (out .exit)) q (now (shown .exit)) (now (lines .exit)) (now (widths .exit)) ⌝ }
+    ensures kept { λ q. ⌜ Kept (marketIn (now (state .entry)) .resources) (rowsIn (now (state .entry))) (now (out .exit)) q (now (shown .exit)) (now (places .exit)) (now (widths .exit)) ⌝ }
 {
     let next = print::put_names(out, at, b"interval resource end price\n");
-    put_table(out, next, i, state, shown, lines, widths)
+    put_table(out, next, i, state, shown, places, widths)
 }
 
 // Puts what the intervals of the fresh hour of these cells print and answers how that ends, from an offset of the text before which so many lines stand: each is read,
@@ -236,11 +244,16 @@ fn put_intervals(
     lines_before: usize,
     state: &mut [i64],
     verdicts: &mut [i64; rules_state::VERDICT_ROOM],
+    shown: &mut [i64],
+    places: &mut [usize],
+    widths: &mut [u8],
     out: &mut [u8],
 ) -> Ending
     requires fresh { ⌜ standingIn (now state) .accepted ≡ 0 ⌝ }
     requires cells { ⌜ (rowsFrom ≤ length (now state)) × (length (now verdicts) ≡ verdictRoom) ⌝ }
     requires room { ⌜ 655424 ≤ length (now out) ⌝ }
+    requires rooms { ⌜ Rooms (marketIn (now state) .resources) (now shown) (now places) (now widths) ⌝ }
+    requires none { ⌜ now places ≡ replicate (length (now places)) 0 ⌝ }
     requires text { ⌜ «lines_before» + length (lines (drop start (now text))) ≤ 65536 ⌝ }
     ensures page { λ r. ⌜ now (out .exit) ≡ sets (now (out .entry)) 0 (hourText (hourIn (now (state .entry)) .hour) «lines_before» (lines (drop start (now (text .entry))))) ⌝ }
     ensures next { λ r. ⌜ (r .at ≡ length (hourText (hourIn (now (state .entry)) .hour) «lines_before» (lines (drop start (now (text .entry)))))) × (r .at ≤ 655424) ⌝ }
@@ -250,9 +263,6 @@ fn put_intervals(
     let mut line = lines_before;
     let mut i: u64 = 1;
     let mut p: usize = 0;
-    let mut shown = [0i64; 2 * Interval::MAX_RESOURCES];
-    let mut lines = [0usize; 2 * Interval::MAX_RESOURCES];
-    let mut widths = [0u8; Mitigated::MAX_STEPS * Interval::MAX_RESOURCES];
     while at < text.len() {
         let taken = interval_part::part_taken(text, at, line, state, verdicts);
         let number = taken.number;
@@ -260,7 +270,7 @@ fn put_intervals(
             return put_refusal(out, p, number, taken.line);
         }
         p = put_verdicts(out, p, i, taken.constraints, verdicts);
-        p = put_curves(out, p, i, state, &mut shown, &mut lines, &mut widths);
+        p = put_curves(out, p, i, state, shown, places, widths);
         at = taken.next;
         line = taken.line;
         i += 1;
@@ -272,61 +282,115 @@ fn put_intervals(
     }
 }
 
-// Puts what a text prints whose part that opens an hour was read, into these cells.
-fn put_opened(text: &[u8], opened: PartOpened, state: &mut [i64], out: &mut [u8]) -> Ending
-    requires room { ⌜ 655424 ≤ length (now out) ⌝ }
-    requires text { ⌜ length (now text) ≤ 65536 ⌝ }
-    requires cells { ⌜ rowsFrom + rowRoom * (opened .resources) ≤ length (now state) ⌝ }
-    requires opened { ⌜ OpenedBy (now text) (replicate (length (now state)) (pos 0)) (now state) (opened .number) (opened .line) (opened .next) (opened .resources) ⌝ }
-    ensures page { λ r. ⌜ now (out .exit) ≡ sets (now (out .entry)) 0 (partsText (lines (now (text .entry)))) ⌝ }
-    ensures next { λ r. ⌜ (r .at ≡ length (partsText (lines (now (text .entry))))) × (r .at ≤ 655424) ⌝ }
-    ensures end { λ r. ⌜ endedBy (r .number) (r .line) ≡ partsEnd (lines (now (text .entry))) ⌝ }
+// Puts what a text prints whose part that opens an hour was read, into these cells, and answers how that ends.
+fn put_opened(
+    text: &[u8],
+    opened: PartOpened,
+    state: &mut [i64],
+    shown: &mut [i64],
+    places: &mut [usize],
+    widths: &mut [u8],
+    out: &mut [u8],
+) -> Ending
+    requires { ⌜ (655424 ≤ length (now out)) × (length (now text) ≤ 65536) ⌝ }
+    requires ready { ⌜ Ready (now text) (now state) (now shown) (now places) (now widths) (opened .number) (opened .line) (opened .next) (opened .resources) ⌝ }
+    ensures { λ r. ⌜ PartsPut (now (text .entry)) (now (out .entry)) (now (out .exit)) (r .at) (r .number) (r .line) ⌝ }
 {
     let number = opened.number;
     if number != 0 {
         return put_refusal(out, 0, number, opened.line);
     }
     let mut verdicts = [0i64; rules_state::VERDICT_ROOM];
-    put_intervals(text, opened.next, opened.line, state, &mut verdicts, out)
+    put_intervals(
+        text,
+        opened.next,
+        opened.line,
+        state,
+        &mut verdicts,
+        shown,
+        places,
+        widths,
+        out,
+    )
 }
 
-// The same of a whole text, with cells for as many resources as an hour may have.
+// The same of a whole text, with room for as many resources as an hour may have.
 fn put_many(text: &[u8], out: &mut [u8]) -> Ending
-    requires room { ⌜ 655424 ≤ length (now out) ⌝ }
-    requires text { ⌜ length (now text) ≤ 65536 ⌝ }
-    ensures page { λ r. ⌜ now (out .exit) ≡ sets (now (out .entry)) 0 (partsText (lines (now (text .entry)))) ⌝ }
-    ensures next { λ r. ⌜ (r .at ≡ length (partsText (lines (now (text .entry))))) × (r .at ≤ 655424) ⌝ }
-    ensures end { λ r. ⌜ endedBy (r .number) (r .line) ≡ partsEnd (lines (now (text .entry))) ⌝ }
+    requires { ⌜ (655424 ≤ length (now out)) × (length (now text) ≤ 65536) ⌝ }
+    ensures { λ r. ⌜ PartsPut (now (text .entry)) (now (out .entry)) (now (out .exit)) (r .at) (r .number) (r .line) ⌝ }
 {
     let mut state = [0i64; rules_state::STATE_ROOM];
     let opened = opening_part::part_opened(text, &mut state);
-    put_opened(text, opened, &mut state, out)
+    let mut shown = [0i64; 2 * Interval::MAX_RESOURCES];
+    let mut places = [0usize; 2 * Interval::MAX_RESOURCES];
+    let mut widths = [0u8; Mitigated::MAX_STEPS * Interval::MAX_RESOURCES];
+    put_opened(
+        text,
+        opened,
+        &mut state,
+        &mut shown,
+        &mut places,
+        &mut widths,
+        out,
+    )
 }
 
-// The same with cells for few.
+// The same with room for few, where that is enough.
 fn put_few(text: &[u8], out: &mut [u8]) -> Ending
-    requires room { ⌜ 655424 ≤ length (now out) ⌝ }
-    requires text { ⌜ length (now text) ≤ 65536 ⌝ }
-    ensures page { λ r. ⌜ now (out .exit) ≡ sets (now (out .entry)) 0 (partsText (lines (now (text .entry)))) ⌝ }
-    ensures next { λ r. ⌜ (r .at ≡ length (partsText (lines (now (text .entry))))) × (r .at ≤ 655424) ⌝ }
-    ensures end { λ r. ⌜ endedBy (r .number) (r .line) ≡ partsEnd (lines (now (text .entry))) ⌝ }
+    requires { ⌜ (655424 ≤ length (now out)) × (length (now text) ≤ 65536) ⌝ }
+    ensures { λ r. ⌜ PartsPut (now (text .entry)) (now (out .entry)) (now (out .exit)) (r .at) (r .number) (r .line) ⌝ }
 {
     let mut state = [0i64; FEW_CELLS];
     let opened = opening_part::part_opened(text, &mut state);
     if FEW_RESOURCES < opened.resources {
         return put_many(text, out);
     }
-    put_opened(text, opened, &mut state, out)
+    let mut shown = [0i64; 2 * FEW_RESOURCES];
+    let mut places = [0usize; 2 * FEW_RESOURCES];
+    let mut widths = [0u8; Mitigated::MAX_STEPS * FEW_RESOURCES];
+    put_opened(
+        text,
+        opened,
+        &mut state,
+        &mut shown,
+        &mut places,
+        &mut widths,
+        out,
+    )
+}
+
+// The same with room for one.
+fn put_one(text: &[u8], out: &mut [u8]) -> Ending
+    requires { ⌜ (655424 ≤ length (now out)) × (length (now text) ≤ 65536) ⌝ }
+    ensures { λ r. ⌜ PartsPut (now (text .entry)) (now (out .entry)) (now (out .exit)) (r .at) (r .number) (r .line) ⌝ }
+{
+    let mut state = [0i64; ONE_CELLS];
+    let opened = opening_part::part_opened(text, &mut state);
+    if 1 < opened.resources {
+        return put_few(text, out);
+    }
+    let mut shown = [0i64; 2];
+    let mut places = [0usize; 2];
+    let mut widths = [0u8; Mitigated::MAX_STEPS];
+    put_opened(
+        text,
+        opened,
+        &mut state,
+        &mut shown,
+        &mut places,
+        &mut widths,
+        out,
+    )
 }
 
 // Puts what the parts of a text print, and answers how that ends.
 fn put_parts(text: &[u8], out: &mut [u8]) -> Ending
-    requires room { ⌜ 655424 ≤ length (now out) ⌝ }
-    requires text { ⌜ length (now text) ≤ 65536 ⌝ }
-    ensures page { λ r. ⌜ now (out .exit) ≡ sets (now (out .entry)) 0 (partsText (lines (now (text .entry)))) ⌝ }
-    ensures next { λ r. ⌜ (r .at ≡ length (partsText (lines (now (text .entry))))) × (r .at ≤ 655424) ⌝ }
-    ensures end { λ r. ⌜ endedBy (r .number) (r .line) ≡ partsEnd (lines (now (text .entry))) ⌝ }
+    requires { ⌜ (655424 ≤ length (now out)) × (length (now text) ≤ 65536) ⌝ }
+    ensures { λ r. ⌜ PartsPut (now (text .entry)) (now (out .entry)) (now (out .exit)) (r .at) (r .number) (r .line) ⌝ }
 {
+    if text.len() <= ONE_BYTES {
+        return put_one(text, out);
+    }
     if text.len() <= FEW_BYTES {
         return put_few(text, out);
     }

@@ -4,13 +4,13 @@ ghost use mathlib.Core.Path.{_≡_};
 ghost use lib.ListN.{replicate};
 ghost use lib.Seq.{sets};
 ghost use Rattle.rules_curve.specs.Refusals.{outcomeNumber};
-ghost use Rattle.rules_interval.specs.Intervals.{intervalOf};
 ghost use Rattle.rules_path.specs.Verdicts.{notBinding};
 ghost use Rattle.rules_hour.specs.Hours.{callRefusal};
 ghost use Rattle.rules_pass.specs.Passes.{turnRefusal};
 ghost use Rattle.rules_state.specs.States.{standingIn, quarterIn, marketIn};
 ghost use Rattle.rules_state.specs.Verdicts.{verdictsCells, judgedCells};
 ghost use Rattle.rules_state.specs.Takes.{ifAccepted, standingWritten, quarterWritten};
+ghost use Rattle.interval.specs.Over.{intervalOver};
 use rules_curve::Outcome;
 use rules_curve::Refusal;
 use rules_hour::Standing;
@@ -22,19 +22,16 @@ use rules_pass::Quarter;
 pub fn take_into<'a>(
     state: &mut [i64],
     constraints: usize,
-    shadow: &'a [i64; Interval::MAX_CONSTRAINTS],
+    shadow: &'a [i64],
     resources: usize,
-    lmp: &'a [i64; Interval::MAX_RESOURCES],
-    dispatch: &'a [i64; Interval::MAX_RESOURCES],
-    available: &'a [i64; Interval::MAX_RESOURCES],
-    floor: &'a [i64; Interval::MAX_RESOURCES],
+    outputs: &'a [i64],
     factors: &'a [i64],
     parameter: i64,
     verdicts: &mut [i64; rules_state::VERDICT_ROOM],
 ) -> Outcome
-    ensures number { λ r. ⌜ outcomeNumber r ≡ callRefusal (marketIn (now (state .entry))) (standingIn (now (state .entry))) (intervalOf constraints (now (shadow .entry)) resources (now (lmp .entry)) (now (dispatch .entry)) (now (available .entry)) (now (floor .entry)) (now (factors .entry)) parameter) ⌝ }
-    ensures state { λ r. ⌜ now (state .exit) ≡ ifAccepted (callRefusal (marketIn (now (state .entry))) (standingIn (now (state .entry))) (intervalOf constraints (now (shadow .entry)) resources (now (lmp .entry)) (now (dispatch .entry)) (now (available .entry)) (now (floor .entry)) (now (factors .entry)) parameter)) (standingWritten (now (state .entry)) (intervalOf constraints (now (shadow .entry)) resources (now (lmp .entry)) (now (dispatch .entry)) (now (available .entry)) (now (floor .entry)) (now (factors .entry)) parameter)) (now (state .entry)) ⌝ }
-    ensures verdicts { λ r. ⌜ now (verdicts .exit) ≡ ifAccepted (callRefusal (marketIn (now (state .entry))) (standingIn (now (state .entry))) (intervalOf constraints (now (shadow .entry)) resources (now (lmp .entry)) (now (dispatch .entry)) (now (available .entry)) (now (floor .entry)) (now (factors .entry)) parameter)) (sets (now (verdicts .entry)) 0 (judgedCells (marketIn (now (state .entry))) (intervalOf constraints (now (shadow .entry)) resources (now (lmp .entry)) (now (dispatch .entry)) (now (available .entry)) (now (floor .entry)) (now (factors .entry)) parameter))) (now (verdicts .entry)) ⌝ }
+    ensures number { λ r. ⌜ outcomeNumber r ≡ callRefusal (marketIn (now (state .entry))) (standingIn (now (state .entry))) (intervalOver constraints (now (shadow .entry)) resources (now (outputs .entry)) (now (factors .entry)) parameter) ⌝ }
+    ensures state { λ r. ⌜ now (state .exit) ≡ ifAccepted (callRefusal (marketIn (now (state .entry))) (standingIn (now (state .entry))) (intervalOver constraints (now (shadow .entry)) resources (now (outputs .entry)) (now (factors .entry)) parameter)) (standingWritten (now (state .entry)) (intervalOver constraints (now (shadow .entry)) resources (now (outputs .entry)) (now (factors .entry)) parameter)) (now (state .entry)) ⌝ }
+    ensures verdicts { λ r. ⌜ now (verdicts .exit) ≡ ifAccepted (callRefusal (marketIn (now (state .entry))) (standingIn (now (state .entry))) (intervalOver constraints (now (shadow .entry)) resources (now (outputs .entry)) (now (factors .entry)) parameter)) (sets (now (verdicts .entry)) 0 (judgedCells (marketIn (now (state .entry))) (intervalOver constraints (now (shadow .entry)) resources (now (outputs .entry)) (now (factors .entry)) parameter))) (now (verdicts .entry)) ⌝ }
 {
     let accepted = cells::whole_at(state, 0);
     if Standing::MAX_INTERVALS <= accepted {
@@ -47,10 +44,7 @@ pub fn take_into<'a>(
         constraints,
         shadow,
         resources,
-        lmp,
-        dispatch,
-        available,
-        floor,
+        outputs,
         factors,
         parameter,
         verdicts,
@@ -62,19 +56,16 @@ pub fn take_into<'a>(
 pub fn pass_into<'a>(
     state: &mut [i64],
     constraints: usize,
-    shadow: &'a [i64; Interval::MAX_CONSTRAINTS],
+    shadow: &'a [i64],
     resources: usize,
-    lmp: &'a [i64; Interval::MAX_RESOURCES],
-    dispatch: &'a [i64; Interval::MAX_RESOURCES],
-    available: &'a [i64; Interval::MAX_RESOURCES],
-    floor: &'a [i64; Interval::MAX_RESOURCES],
+    outputs: &'a [i64],
     factors: &'a [i64],
     parameter: i64,
     verdicts: &mut [i64; rules_state::VERDICT_ROOM],
 ) -> Outcome
-    ensures number { λ r. ⌜ outcomeNumber r ≡ turnRefusal (marketIn (now (state .entry))) (standingIn (now (state .entry)) .accepted) (quarterIn (now (state .entry))) (intervalOf constraints (now (shadow .entry)) resources (now (lmp .entry)) (now (dispatch .entry)) (now (available .entry)) (now (floor .entry)) (now (factors .entry)) parameter) ⌝ }
-    ensures state { λ r. ⌜ now (state .exit) ≡ ifAccepted (turnRefusal (marketIn (now (state .entry))) (standingIn (now (state .entry)) .accepted) (quarterIn (now (state .entry))) (intervalOf constraints (now (shadow .entry)) resources (now (lmp .entry)) (now (dispatch .entry)) (now (available .entry)) (now (floor .entry)) (now (factors .entry)) parameter)) (quarterWritten (now (state .entry)) (intervalOf constraints (now (shadow .entry)) resources (now (lmp .entry)) (now (dispatch .entry)) (now (available .entry)) (now (floor .entry)) (now (factors .entry)) parameter)) (now (state .entry)) ⌝ }
-    ensures verdicts { λ r. ⌜ now (verdicts .exit) ≡ ifAccepted (turnRefusal (marketIn (now (state .entry))) (standingIn (now (state .entry)) .accepted) (quarterIn (now (state .entry))) (intervalOf constraints (now (shadow .entry)) resources (now (lmp .entry)) (now (dispatch .entry)) (now (available .entry)) (now (floor .entry)) (now (factors .entry)) parameter)) (sets (now (verdicts .entry)) 0 (judgedCells (marketIn (now (state .entry))) (intervalOf constraints (now (shadow .entry)) resources (now (lmp .entry)) (now (dispatch .entry)) (now (available .entry)) (now (floor .entry)) (now (factors .entry)) parameter))) (now (verdicts .entry)) ⌝ }
+    ensures number { λ r. ⌜ outcomeNumber r ≡ turnRefusal (marketIn (now (state .entry))) (standingIn (now (state .entry)) .accepted) (quarterIn (now (state .entry))) (intervalOver constraints (now (shadow .entry)) resources (now (outputs .entry)) (now (factors .entry)) parameter) ⌝ }
+    ensures state { λ r. ⌜ now (state .exit) ≡ ifAccepted (turnRefusal (marketIn (now (state .entry))) (standingIn (now (state .entry)) .accepted) (quarterIn (now (state .entry))) (intervalOver constraints (now (shadow .entry)) resources (now (outputs .entry)) (now (factors .entry)) parameter)) (quarterWritten (now (state .entry)) (intervalOver constraints (now (shadow .entry)) resources (now (outputs .entry)) (now (factors .entry)) parameter)) (now (state .entry)) ⌝ }
+    ensures verdicts { λ r. ⌜ now (verdicts .exit) ≡ ifAccepted (turnRefusal (marketIn (now (state .entry))) (standingIn (now (state .entry)) .accepted) (quarterIn (now (state .entry))) (intervalOver constraints (now (shadow .entry)) resources (now (outputs .entry)) (now (factors .entry)) parameter)) (sets (now (verdicts .entry)) 0 (judgedCells (marketIn (now (state .entry))) (intervalOver constraints (now (shadow .entry)) resources (now (outputs .entry)) (now (factors .entry)) parameter))) (now (verdicts .entry)) ⌝ }
 {
     let accepted = cells::whole_at(state, 0);
     let passes = cells::whole_at(state, rules_state::QUARTER_FROM);
@@ -91,10 +82,7 @@ pub fn pass_into<'a>(
         constraints,
         shadow,
         resources,
-        lmp,
-        dispatch,
-        available,
-        floor,
+        outputs,
         factors,
         parameter,
         verdicts,

@@ -78,7 +78,7 @@ holds b i xs h = record {
 }
 
 -- ---- a curve, and costs, of a block
-pub map-at : {A B : Type 0} (f : A → B) (d : A) (l : List A) (i : ℕ) → getD (map f l) i (f d) ≡ f (getD l i d)
+map-at : {A B : Type 0} (f : A → B) (d : A) (l : List A) (i : ℕ) → getD (map f l) i (f d) ≡ f (getD l i d)
 map-at f d [] zero = refl
 map-at f d [] (suc i) = refl
 map-at f d (x ∷ l) zero = refl

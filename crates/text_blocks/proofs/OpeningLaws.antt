@@ -1,7 +1,7 @@
 -- Laws of the opening of a text: blocks with its tables decode to it. Assumes nothing.
 use Prim.Native.Nat.{ℕ, zero, suc, _+_, _*_, _≤_, _<_, min}
 use mathlib.Core.Path.{_≡_, refl, sym, ap, _∙_}
-use mathlib.Core.List.{List, [], _∷_, _++_, map}
+use mathlib.Core.List.{List, [], _∷_, _++_, map, flatMap}
 use mathlib.Core.Logic.{⊎-elim}
 use native.Mathlib.Omega.{arith}
 use native.Mathlib.Nat.{add-zero}
@@ -26,7 +26,7 @@ use Rattle.rules_state.specs.Openings.{blockOf, resourceIn, openingIn}
 use Rattle.text_blocks.specs.Blocks.{groupCells, ownerCells, ownerRows, chargeCells, blocksPut, blocksOf, stepsFrom, pointsFrom, chargesFrom, openingWith}
 use Rattle.text_blocks.proofs.LastLaws.{blocks-length}
 use Rattle.text_blocks.proofs.WindowLaws.{block-at, block-past, block-blank}
-use Rattle.text_blocks.proofs.DecodeLaws.{group-length, charge-length, map-at, decoded, decoded-blank}
+use Rattle.text_blocks.proofs.DecodeLaws.{group-length, charge-length, decoded, decoded-blank}
 
 -- ---- one resource more put into its block
 pub blocks-more : {A : Type 0} (f : A → List ℤ) (from r : ℕ) (l : List ℤ) (xs : List A) (x : A)
@@ -38,28 +38,36 @@ blocks-more f from r l (y ∷ xs) x =
     let put = sets l (blockRoom * r + from) (f y) in
     blocks-more f from (suc r) put xs x ∙ ap (λ (i : ℕ). sets (blocksPut f from (suc r) put xs) (blockRoom * i + from) (f x)) z
 
-pub owners-length : (portfolio start : List ℤ) (n : ℕ) → length (ownerRows portfolio start n) ≡ n
+pub owners-length : (owners : List ℤ) (n : ℕ) → length (ownerRows owners n) ≡ n
 unfolding ownerRows
-owners-length portfolio start n = listed-length (λ r. pos 0 ∷ cellAt portfolio r ∷ cellAt start r ∷ []) n
+owners-length owners n = listed-length (λ r. pos 0 ∷ cellAt owners (2 * r) ∷ cellAt owners (2 * r + 1) ∷ []) n
 
-pub owners-none : (portfolio start l : List ℤ) → l ≡ blocksPut ownerCells 0 0 l (ownerRows portfolio start 0)
+-- in any room for the first n resources, the cells of these are the same
+pub owners-room : (xs : List ℤ) (room n : ℕ) → n ≤ 64 → 2 * n ≤ room → ownerRows (kept room (pos 0) xs) n ≡ ownerRows (kept 128 (pos 0) xs) n
+unfolding ownerRows kept
+owners-room xs room n h k =
+    listed-same _ _ n
+    (λ r l. ap (λ (z : ℤ). pos 0 ∷ z ∷ cellAt (sets (replicate room (pos 0)) 0 xs) (2 * r + 1) ∷ []) (sets-read room (pos 0) xs (2 * r) (omega arith) ∙ sym (sets-read 128 (pos 0) xs (2 * r) (omega arith)))
+    ∙ ap (λ (z : ℤ). pos 0 ∷ cellAt (sets (replicate 128 (pos 0)) 0 xs) (2 * r) ∷ z ∷ []) (sets-read room (pos 0) xs (2 * r + 1) (omega arith) ∙ sym (sets-read 128 (pos 0) xs (2 * r + 1) (omega arith))))
+
+pub owners-none : (owners l : List ℤ) → l ≡ blocksPut ownerCells 0 0 l (ownerRows owners 0)
 unfolding ownerRows listed blocksPut
-owners-none portfolio start l = refl
+owners-none owners l = refl
 
-pub owners-more : (portfolio start l : List ℤ) (r : ℕ)
-    → set (set (blocksPut ownerCells 0 0 l (ownerRows portfolio start r)) (blockRoom * r) (cellAt portfolio r)) (blockRoom * r + 1) (cellAt start r)
-    ≡ blocksPut ownerCells 0 0 l (ownerRows portfolio start (r + 1))
+pub owners-more : (owners l : List ℤ) (r : ℕ)
+    → set (set (blocksPut ownerCells 0 0 l (ownerRows owners r)) (blockRoom * r) (cellAt owners (2 * r))) (blockRoom * r + 1) (cellAt owners (2 * r + 1))
+    ≡ blocksPut ownerCells 0 0 l (ownerRows owners (r + 1))
 unfolding ownerRows listed
-owners-more portfolio start l r =
-    let xs = ownerRows portfolio start r in
+owners-more owners l r =
+    let xs = ownerRows owners r in
     let put = blocksPut ownerCells 0 0 l xs in
-    let x = cellAt portfolio r in
-    let y = cellAt start r in
-    let z : blockRoom * (0 + length xs) + 0 ≡ blockRoom * r = omega (arith, owners-length portfolio start r) in
+    let x = cellAt owners (2 * r) in
+    let y = cellAt owners (2 * r + 1) in
+    let z : blockRoom * (0 + length xs) + 0 ≡ blockRoom * r = omega (arith, owners-length owners r) in
     ap (λ (i : ℕ). set (set put (blockRoom * r) x) i y) (add-one (blockRoom * r))
     ∙ ap (λ (i : ℕ). sets put i (x ∷ y ∷ [])) (sym z)
     ∙ sym (blocks-more ownerCells 0 0 l xs (pos 0 ∷ x ∷ y ∷ []))
-    ∙ ap (λ (i : ℕ). blocksPut ownerCells 0 0 l (ownerRows portfolio start i)) (sym (add-one r))
+    ∙ ap (λ (i : ℕ). blocksPut ownerCells 0 0 l (ownerRows owners i)) (sym (add-one r))
 
 -- ---- blocks with all tables
 opening-by : {month : ℤ} {p m : ℕ} {s s' : List ℤ} {l l' : List Resource} → s ≡ s' → l ≡ l'
@@ -135,14 +143,14 @@ module _ (n : ℕ) (xs : List Row) (ss ps : List (List Row)) (cs : List Row) whe
       ∙ decoded-blank ∙ rw (x, s, p, y)
 
 -- zeros with room for the resources, and the tables put into them
-pub blocks-decode : (month : ℤ) (portfolios : ℕ) (sellers : List ℤ) (m : ℕ) (portfolio start : List ℤ) (n : ℕ) → blockRoom * min m 64 ≤ n
+pub blocks-decode : (month : ℤ) (portfolios : ℕ) (sellers : List ℤ) (m : ℕ) (owners : List ℤ) (n : ℕ) → blockRoom * min m 64 ≤ n
     → (ss ps : List (List Row)) (cs : List Row) → length ss ≡ m → length ps ≡ m → length cs ≡ m
-    → openingIn month portfolios sellers m (blocksOf (blocksPut ownerCells 0 0 (replicate n (pos 0)) (ownerRows portfolio start (min m 64))) ss ps cs)
-    ≡ openingWith month portfolios sellers m portfolio start ss ps cs
+    → openingIn month portfolios sellers m (blocksOf (blocksPut ownerCells 0 0 (replicate n (pos 0)) (ownerRows owners (min m 64))) ss ps cs)
+    ≡ openingWith month portfolios sellers m owners ss ps cs
 unfolding openingIn openingWith blocksOf
-blocks-decode month portfolios sellers m portfolio start n room ss ps cs a b c =
-    let xs = ownerRows portfolio start (min m 64) in
-    let o = owners-length portfolio start (min m 64) in
+blocks-decode month portfolios sellers m owners n room ss ps cs a b c =
+    let xs = ownerRows owners (min m 64) in
+    let o = owners-length owners (min m 64) in
     opening-by refl
     (listed-same (λ r. resourceIn (blockOf (blocksOf (blocksPut ownerCells 0 0 (replicate n (pos 0)) xs) ss ps cs) r)) (λ r. resourceOf (getD xs r []) (getD ss r []) (getD ps r []) (getD cs r [])) mostResources
     (λ r h. ⊎-elim (λ l. block-out n xs ss ps cs r (omega arith) (omega arith) (omega arith) (omega arith))
@@ -171,34 +179,54 @@ kept-get l q h = sets-read 64 (resourceOf [] [] [] []) l q h
 resource-by : (x y : Row) (s p : List Row) (c : Row) → cell 1 x ≡ cell 1 y → cell 2 x ≡ cell 2 y → resourceOf x s p c ≡ resourceOf y s p c
 resource-by x y s p c a b = cc
 
+-- portfolio and start of each line in turn, by index
+portfolio-in : (rr : List Row) (k : ℕ) → getD (flatMap ownerCells rr) (2 * k) (pos 0) ≡ cell 1 (getD rr k [])
+unfolding flatMap
+portfolio-in [] k = List·getD-eq-default [] (pos 0) {n = 2 * k} (omega arith) ∙ ap (cell 1) (sym (List·getD-eq-default [] [] {n = k} (omega arith)))
+portfolio-in (x ∷ rr) zero = refl
+portfolio-in (x ∷ rr) (suc k) =
+    let z : 2 * suc k ≡ suc (suc (2 * k)) = omega arith in
+    ap (λ (i : ℕ). getD (flatMap ownerCells (x ∷ rr)) i (pos 0)) z ∙ portfolio-in rr k
+
+start-in : (rr : List Row) (k : ℕ) → getD (flatMap ownerCells rr) (2 * k + 1) (pos 0) ≡ cell 2 (getD rr k [])
+unfolding flatMap
+start-in [] k = List·getD-eq-default [] (pos 0) {n = 2 * k + 1} (omega arith) ∙ ap (cell 2) (sym (List·getD-eq-default [] [] {n = k} (omega arith)))
+start-in (x ∷ rr) zero = refl
+start-in (x ∷ rr) (suc k) =
+    let z : 2 * suc k + 1 ≡ suc (suc (2 * k + 1)) = omega arith in
+    ap (λ (i : ℕ). getD (flatMap ownerCells (x ∷ rr)) i (pos 0)) z ∙ start-in rr k
+
 module _ (rr : List Row) where
-  column : ℕ → List ℤ
-  column j = kept 64 (pos 0) (map (cell j) rr)
+  owned-cells : List ℤ
+  owned-cells = kept 128 (pos 0) (flatMap ownerCells rr)
 
-  column-at : (j k : ℕ) → cell j [] ≡ pos 0 → k < 64 → cellAt (column j) k ≡ cell j (getD rr k [])
-  unfolding column kept
-  column-at j k e h =
-      sets-read 64 (pos 0) (map (cell j) rr) k h ∙ ap (getD (map (cell j) rr) k) (sym e) ∙ map-at (cell j) [] rr k
+  portfolio-at : (k : ℕ) → k < 64 → cellAt owned-cells (2 * k) ≡ cell 1 (getD rr k [])
+  unfolding owned-cells kept
+  portfolio-at k h = sets-read 128 (pos 0) (flatMap ownerCells rr) (2 * k) (omega arith) ∙ portfolio-in rr k
 
-  -- the line of resource k by the columns has the cells of its own
-  owner-in : (k : ℕ) → k < 64 → k < length rr → getD (ownerRows (column 1) (column 2) (min (length rr) 64)) k [] ≡ pos 0 ∷ cell 1 (getD rr k []) ∷ cell 2 (getD rr k []) ∷ []
+  start-at : (k : ℕ) → k < 64 → cellAt owned-cells (2 * k + 1) ≡ cell 2 (getD rr k [])
+  unfolding owned-cells kept
+  start-at k h = sets-read 128 (pos 0) (flatMap ownerCells rr) (2 * k + 1) (omega arith) ∙ start-in rr k
+
+  -- the line of resource k by these cells has the cells of its own
+  owner-in : (k : ℕ) → k < 64 → k < length rr → getD (ownerRows owned-cells (min (length rr) 64)) k [] ≡ pos 0 ∷ cell 1 (getD rr k []) ∷ cell 2 (getD rr k []) ∷ []
   unfolding ownerRows
   owner-in k h l =
-      listed-at (λ r. pos 0 ∷ cellAt (column 1) r ∷ cellAt (column 2) r ∷ []) [] (min (length rr) 64) k (omega arith)
-      ∙ ap (λ (z : ℤ). pos 0 ∷ z ∷ cellAt (column 2) k ∷ []) (column-at 1 k refl h) ∙ ap (λ (z : ℤ). pos 0 ∷ cell 1 (getD rr k []) ∷ z ∷ []) (column-at 2 k refl h)
+      listed-at (λ r. pos 0 ∷ cellAt owned-cells (2 * r) ∷ cellAt owned-cells (2 * r + 1) ∷ []) [] (min (length rr) 64) k (omega arith)
+      ∙ ap (λ (z : ℤ). pos 0 ∷ z ∷ cellAt owned-cells (2 * k + 1) ∷ []) (portfolio-at k h) ∙ ap (λ (z : ℤ). pos 0 ∷ cell 1 (getD rr k []) ∷ z ∷ []) (start-at k h)
 
-  owner-cell : (j k : ℕ) → k < 64 → ((x : Row) → cell j (pos 0 ∷ cell 1 x ∷ cell 2 x ∷ []) ≡ cell j x) → cell j (getD (ownerRows (column 1) (column 2) (min (length rr) 64)) k []) ≡ cell j (getD rr k [])
+  owner-cell : (j k : ℕ) → k < 64 → ((x : Row) → cell j (pos 0 ∷ cell 1 x ∷ cell 2 x ∷ []) ≡ cell j x) → cell j (getD (ownerRows owned-cells (min (length rr) 64)) k []) ≡ cell j (getD rr k [])
   owner-cell j k h e = ⊎-elim
-      (λ l. ap (cell j) (List·getD-eq-default (ownerRows (column 1) (column 2) (min (length rr) 64)) [] {n = k} (omega (arith, owners-length (column 1) (column 2) (min (length rr) 64)))) ∙ ap (cell j) (sym (List·getD-eq-default rr [] {n = k} l)))
+      (λ l. ap (cell j) (List·getD-eq-default (ownerRows owned-cells (min (length rr) 64)) [] {n = k} (omega (arith, owners-length owned-cells (min (length rr) 64)))) ∙ ap (cell j) (sym (List·getD-eq-default rr [] {n = k} l)))
       (λ l. ap (cell j) (owner-in k h l) ∙ e (getD rr k [])) (le-or-lt (length rr) k)
 
   pub with-is : (month : ℤ) (pr : List Row) (ss ps : List (List Row)) (cs : List Row) → length ss ≡ length rr → length ps ≡ length rr → length cs ≡ length rr
-      → openingWith month (length pr) (kept 16 (pos 0) (map (cell 1) pr)) (length rr) (kept 64 (pos 0) (map (cell 1) rr)) (kept 64 (pos 0) (map (cell 2) rr)) ss ps cs ≡ openingOf month pr rr ss ps cs
-  unfolding openingWith openingOf column
+      → openingWith month (length pr) (kept 16 (pos 0) (map (cell 1) pr)) (length rr) (kept 128 (pos 0) (flatMap ownerCells rr)) ss ps cs ≡ openingOf month pr rr ss ps cs
+  unfolding openingWith openingOf owned-cells
   with-is month pr ss ps cs a b c =
       let sellers = kept 16 (pos 0) (map (cell 1) pr) in
       let blanks = resourceOf [] [] [] [] in
-      let rows = ownerRows (column 1) (column 2) (min (length rr) 64) in
+      let rows = ownerRows owned-cells (min (length rr) 64) in
       opening-by (sym (listed-is (pos 0) sellers (cellAt sellers) mostPortfolios (kept-length 16 (pos 0) (map (cell 1) pr)) (λ q h. refl)))
       (sym (listed-is blanks (kept 64 blanks (resourcesOf rr ss ps cs)) (λ r. resourceOf (getD rows r []) (getD ss r []) (getD ps r []) (getD cs r [])) mostResources (kept-length 64 blanks (resourcesOf rr ss ps cs))
       (λ q h. kept-get (resourcesOf rr ss ps cs) q h ∙ resources-at rr ss ps cs a b c q

@@ -28,9 +28,9 @@ groupCells xs = pos (length xs) ∷ pairsTo 11 xs
 abbrev pub ownerCells : Row → List ℤ
 ownerCells x = cell 1 x ∷ cell 2 x ∷ []
 
--- such lines of n resources, by the columns of their table
-unfoldable pub ownerRows : List ℤ → List ℤ → ℕ → List Row
-ownerRows portfolio start n = listed (λ r. pos 0 ∷ cellAt portfolio r ∷ cellAt start r ∷ []) n
+-- such lines of n resources, by the portfolio and the start of each in turn
+unfoldable pub ownerRows : List ℤ → ℕ → List Row
+ownerRows owners n = listed (λ r. pos 0 ∷ cellAt owners (2 * r) ∷ cellAt owners (2 * r + 1) ∷ []) n
 
 -- the charges of a cost line
 unfoldable pub chargeCells : Row → List ℤ
@@ -65,14 +65,14 @@ unfoldable pub blocksOf : List ℤ → List (List Row) → List (List Row) → L
 blocksOf l steps points costs =
     blocksPut chargeCells chargesFrom 0 (blocksPut groupCells pointsFrom 0 (blocksPut groupCells stepsFrom 0 l steps) points) costs
 
--- the opening with these marks, columns of the resource table, and tables of m resources
-unfoldable pub openingWith : ℤ → ℕ → List ℤ → ℕ → List ℤ → List ℤ → List (List Row) → List (List Row) → List Row → Opening
-openingWith month portfolios sellers m portfolio start steps points costs = record {
+-- the opening with these marks, portfolios and starts, and tables of m resources
+unfoldable pub openingWith : ℤ → ℕ → List ℤ → ℕ → List ℤ → List (List Row) → List (List Row) → List Row → Opening
+openingWith month portfolios sellers m owners steps points costs = record {
   month = month;
   portfolios = portfolios;
   sellers = numbersIn sellers mostPortfolios;
   resources = m;
-  list = listed (λ r. resourceOf (getD (ownerRows portfolio start (min m 64)) r []) (getD steps r []) (getD points r []) (getD costs r [])) mostResources;
+  list = listed (λ r. resourceOf (getD (ownerRows owners (min m 64)) r []) (getD steps r []) (getD points r []) (getD costs r [])) mostResources;
 }
 
 -- ---- what the code's answers stand for

@@ -5,7 +5,6 @@ use rules_text::Three;
 use text_numbers::closed_at;
 use text_numbers::closing;
 use text_numbers::id_triple_at;
-use text_numbers::is_id;
 ghost use mathlib.Core.Path.{_≡_};
 ghost use mathlib.Core.Option.{none};
 ghost use Rattle.rules_text.specs.Offsets.{asRow, rowAt, threeOf, idRowAt};
@@ -46,21 +45,6 @@ pub fn row_at(s: &[u8], at: usize, k: usize) -> Row
         v,
         next: p,
     }
-}
-
-// The k values of the line at an offset, where the first of them is the id n; otherwise no row.
-pub fn id_row_at(s: &[u8], at: usize, k: usize, n: usize) -> Row
-    ensures { λ r. ⌜ r ≡ idRowAt n (now (s .entry)) at k ⌝ }
-{
-    let row = row_at(s, at, k);
-    let v = row.v;
-    if !row.ok {
-        return no_row();
-    }
-    if !is_id(n, v[0]) {
-        return no_row();
-    }
-    row
 }
 
 // The three values of the line at an offset, where the first of them is the id n; otherwise no row.

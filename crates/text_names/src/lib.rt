@@ -66,10 +66,10 @@ pub fn line_is(s: &[u8], at: usize, want: &[u8]) -> Found
     if want.len() == 0 {
         return Found::At(at);
     }
-    if s.len() <= at {
+    if s.len() < want.len() {
         return Found::Nothing;
     }
-    if s.len() - at < want.len() {
+    if s.len() - want.len() < at {
         return Found::Nothing;
     }
     let mut i = 0;

@@ -1,3 +1,4 @@
 -- Laws that the proofs of the code use.
-pub mod HeadLaws
 pub mod ShortLaws
+pub mod StandLaws
+pub mod DueLaws

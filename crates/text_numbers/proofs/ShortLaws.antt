@@ -1,5 +1,5 @@
 -- Laws of short numbers, of ids compared as bytes, and of lines of three values. Assumes nothing.
-use Prim.Native.Nat.{ℕ, suc, _+_, _*_, _/_, _%_, _^_, _≤_, _<_}
+use Prim.Native.Nat.{ℕ, suc, _+_, _-_, _*_, _/_, _%_, _^_, _≤_, _<_}
 use mathlib.Core.Path.{_≡_, refl, sym, ap, subst, _∙_}
 use mathlib.Core.List.{List, [], _∷_, _++_}
 use mathlib.Core.Option.{Option, none, some}
@@ -13,6 +13,7 @@ use lib.IntN.{ℤ, pos, negℤ}
 use lib.Signed.{mag}
 use Rattle.rules_number.specs.Order.{eqZ}
 use Rattle.rules_number.proofs.Kit.{rd, came}
+use Rattle.rules_number.proofs.OverLaws.{never}
 use Rattle.rules_number.proofs.OrderLaws.{eqZ-true, eqZ-same}
 use Rattle.rules_text.specs.declared.Magnitude.the-variants.{Spells}
 use Rattle.rules_text.specs.declared.Number.{Number}
@@ -25,10 +26,11 @@ use Rattle.rules_text.specs.Printing.{decimal}
 use Rattle.rules_text.proofs.ListLaws.{at-cons, head-at}
 use Rattle.rules_text.proofs.NumberLaws.{Reads, reads-start, reads-stop, reads-more, take-few, mag-is, number-plain, number-minus}
 use Rattle.rules_text.proofs.LineLaws.{line}
-use Rattle.rules_text.proofs.RowLaws.{left, Rowing, rowing-start, rowing-missing, rowing-more, rowing-done, row-none, row-some, row-in, stepped, missing}
+use Rattle.rules_text.proofs.RowLaws.{left, Rowing, rowing-start, rowing-missing, rowing-more, rowing-done, row-none, row-some, row-in, in-range, stepped, missing}
 use Rattle.rules_text.proofs.PrintLaws.{digits-one, digits-more}
 use Rattle.rules_text.proofs.OnlySpelling.{Begins, number-iff}
 use Rattle.text_numbers.specs.Short.{Short, Two}
+use Rattle.text_numbers.specs.Rows.{Plain}
 
 -- ---- a byte that is no digit
 minus-first : (t : List ℕ) → getD t 0 0 ≡ 45 → digitCount t ≡ 0
@@ -47,9 +49,13 @@ or-true : (b : Bool) → (b || true) ≡ true
 or-true true = refl
 or-true false = refl
 
--- k digits, of which the first is no 0
-formed-lead : (f k : ℕ) → 1 ≤ k → k ≤ 12 → (f ≡ 48 → ⊥) → formed f k ≡ true
-formed-lead f k a b n = simp (le-leb 1 k a, le-leb k 12 b, ne-eqb f 48 n) (or-true (eqb k 1))
+-- k digits, of which the first is no 0 unless it is the only one
+formed-lead : (f k : ℕ) → 1 ≤ k → k ≤ 12 → (f ≡ 48 → k ≡ 1) → formed f k ≡ true
+formed-lead f k a b n = go (eqb f 48) refl
+  where
+    go : (d : Bool) → eqb f 48 ≡ d → formed f k ≡ true
+    go true e = simp (le-leb 1 k a, le-leb k 12 b, eq-eqb k 1 (n (eqb-true f 48 e)))
+    go false e = simp (le-leb 1 k a, le-leb k 12 b, e) (or-true (eqb k 1))
 
 -- k digits spell v, and the byte b closes them
 module _ (s : List ℕ) (at v k : ℕ) (m : Spells v k ≡ magnitude (drop at s)) where
@@ -68,49 +74,58 @@ module _ (s : List ℕ) (at v k : ℕ) (m : Spells v k ≡ magnitude (drop at s)
       closed-is s b p (at + k) (negℤ (pos v))
       (sym (ap (shifted p) (o ∙ ap negated u ∙ ap (λ (y : Bool). cond y Not (Is (negℤ (pos v)) (suc k))) (ne-eqb v 0 (λ j. omega (arith, above)))) ∙ ap (Is (negℤ (pos v))) x)) c
 
-module _ (s : List ℕ) (at : ℕ) where
-  -- k digits have been read, of which the first is no 0, and spell v
+module _ (s : List ℕ) (at end : ℕ) where
+  -- k digits have been read, of which the first is no 0 unless it is the only one, and spell v
   pub record Run (v k : ℕ) : Type 0 where
-    pub reads : Reads s at 8 v k
+    pub reads : Reads s at end v k
     pub some : 1 ≤ k
-    pub above : 1 ≤ v
-    pub lead : getD s at 0 ≡ 48 → ⊥
+    pub lead : getD s at 0 ≡ 48 → (k ≡ 1) × (v ≡ 0)
 
-  module _ (room : at + 8 ≤ length s) where
-    pub run-first : (d : ℕ) → (d + 49) % 2 ^ 64 ≡ getD s at 0 → d ≤ 8 → Run (d + 1) 1
-    run-first d e h =
+  module _ (room : at + end ≤ length s) (few : end ≤ 12) where
+    pub run-first : (d : ℕ) → 0 < end → (d + 48) % 2 ^ 64 ≡ getD s at 0 → d ≤ 9 → Run d 1
+    run-first d has e h =
         let z : at + 0 ≡ at = omega arith in
         let f : getD s (at + 0) 0 ≡ getD s at 0 = ap (λ (i : ℕ). getD s i 0) z in
-        let m : 0 * 10 + (d + 1) ≡ d + 1 = omega arith in
+        let m : 0 * 10 + d ≡ d = omega arith in
         record {
-          reads = subst (λ (x : ℕ). Reads s at 8 x 1) m (reads-more s at 8 room 0 0 (reads-start s at 8) (d + 1) (omega arith) (omega arith) (omega arith));
+          reads = subst (λ (x : ℕ). Reads s at end x 1) m (reads-more s at end room 0 0 (reads-start s at end) d (omega arith) (omega arith) (omega arith));
           some = omega arith;
-          above = omega arith;
-          lead = λ l. omega arith;
+          lead = λ l. (refl, omega arith);
         }
 
-    module _ (v k : ℕ) (r : Run v k) (d : ℕ) (here : k < 8) (wraps : (d + 48) % 2 ^ 64 ≡ getD s (at + k) 0) where
-      pub run-more : d ≤ 9 → Run (v * 10 + d) (k + 1)
-      run-more h = record {
-        reads = reads-more s at 8 room v k (r .reads) d here wraps h;
+    module _ (v k : ℕ) (r : Run v k) (d : ℕ) (here : k < end) (wraps : (d + 48) % 2 ^ 64 ≡ getD s (at + k) 0) where
+      pub run-more : (v ≡ 0 → ⊥) → d ≤ 9 → Run (v * 10 + d) (k + 1)
+      run-more above h = record {
+        reads = reads-more s at end room v k (r .reads) d here wraps h;
         some = omega arith;
-        above = omega (arith, r .above);
-        lead = r .lead;
+        lead = λ l. absurd (above (r .lead l .1));
       }
 
       spells : d < 2 ^ 64 → 9 < d → (Spells v k ≡ magnitude (drop at s)) × (k ≡ digitCount (drop at s))
       spells f h =
           let t = drop at s in
-          let q = reads-stop s at 8 room v k (r .reads) d here wraps f h in
-          let w = take-few 8 0 t (omega (arith, q .1)) in
+          let q = reads-stop s at end room v k (r .reads) d here wraps f h in
+          let w = take-few end 0 t (omega (arith, q .1)) in
           let n : k ≡ digitCount t = q .1 ∙ w .0 in (
             ap (λ (x : ℕ). Spells x k) (q .0 ∙ w .1) ∙ ap (Spells (value 0 t)) n
-                ∙ sym (mag-is t (ap (λ (x : ℕ). formed x (digitCount t)) (sym (head-at 0 s at)) ∙ ap (formed (getD s at 0)) (sym n) ∙ formed-lead (getD s at 0) k (r .some) (omega arith) (r .lead))),
+                ∙ sym (mag-is t (ap (λ (x : ℕ). formed x (digitCount t)) (sym (head-at 0 s at)) ∙ ap (formed (getD s at 0)) (sym n) ∙ formed-lead (getD s at 0) k (r .some) (omega arith) (λ l. r .lead l .0))),
             n,
           )
 
-      pub short-is : d < 2 ^ 64 → 9 < d → (b : ℕ) → getD s (at + k) 0 ≡ b → Short s at b v (at + k + 1)
-      short-is f h b c = let m = spells f h in record { natural = natural-is s at v k (m .0) (m .1) (r .some) b c; negative = negative-is s at v k (m .0) (r .above) b c }
+      pub plain-is : d < 2 ^ 64 → 9 < d → (b : ℕ) → getD s (at + k) 0 ≡ b → Plain s at b v (at + k + 1)
+      plain-is f h b c = let m = spells f h in record { natural = natural-is s at v k (m .0) (m .1) (r .some) b c; negative = λ above. negative-is s at v k (m .0) (omega (arith, above)) b c }
+
+-- a number that is no 0
+pub short-is : (s : List ℕ) (at b v n : ℕ) → 1 ≤ v → Plain s at b v n → Short s at b v n
+short-is s at b v n h p = record { natural = p .natural; negative = p .negative (λ e. omega arith) }
+
+-- a digit that byte 10 closes
+pub digit-is : (s : List ℕ) (p d : ℕ) → p + 2 ≤ length s → (d + 48) % 2 ^ 64 ≡ getD s p 0 → d ≤ 9 → getD s (p + 1) 0 ≡ 10 → Is (pos d) (p + 2) ≡ closedBy s 10 (numberAt s p)
+digit-is s p d room e h c =
+    let next : p + 1 + 1 ≡ p + 2 = omega arith in
+    let r = run-first s p 2 room (omega arith) d (omega arith) e h in
+    ap (Is (pos d)) (sym next)
+    ∙ plain-is s p 2 room (omega arith) d 1 r (2 ^ 64 - 38) (omega arith) (omega arith) (omega arith) (omega arith) 10 c .natural
 
 -- a number that a call hands back
 pub came-is : {x z : ℤ} {n : ℕ} {y : Number} → mag x < 2 ^ 63 → x ≡ z → Is z n ≡ y → Is (rd x) n ≡ y
@@ -243,14 +258,21 @@ module _ (s : List ℕ) (at n : ℕ) where
   other-put z none h = refl
   other-put z (some zs) h = ap (λ (b : Bool). cond b (some (z ∷ zs)) none) h
 
-  other-by : ((q : ℕ) → Is (pos n) q ≡ closedBy s 32 (numberAt s at) → ⊥) → (x : Number) → closedBy s 32 (numberAt s at) ≡ x → ifSuits (hasId n) (row 3 (line (drop at s))) ≡ none
-  other-by h Not e = ap (ifSuits (hasId n)) (missing s at 2 (sym e))
-  other-by h (Is z q) e = ap (ifSuits (hasId n)) (stepped s at 2 z q (sym e) .value) ∙ other-put z (row 2 (left 2 (drop q s))) (go (eqZ (pos n) z) refl)
+  -- in a line of any more values
+  other-by : (k : ℕ) → ((q : ℕ) → Is (pos n) q ≡ closedBy s 32 (numberAt s at) → ⊥) → (x : Number) → closedBy s 32 (numberAt s at) ≡ x
+      → ifSuits (hasId n) (row (suc (suc k)) (line (drop at s))) ≡ none
+  other-by k h Not e = ap (ifSuits (hasId n)) (missing s at (suc k) (sym e))
+  other-by k h (Is z q) e = ap (ifSuits (hasId n)) (stepped s at (suc k) z q (sym e) .value) ∙ other-put z (row (suc k) (left (suc k) (drop q s))) (go (eqZ (pos n) z) refl)
     where
       go : (b : Bool) → eqZ (pos n) z ≡ b → b ≡ false
       go true f = absurd (h q (ap (λ (w : ℤ). Is w q) (eqZ-true (pos n) z f) ∙ sym e))
       go false f = refl
 
-  pub id-other : ((q : ℕ) → Is (pos n) q ≡ closedBy s 32 (numberAt s at) → ⊥) → asRow 0 none ≡ idRowAt n s at 3
-  id-other h =
-      sym (row-in (ifSuits (hasId n)) s at 3 refl ∙ ap (asRow (at + length (line (drop at s)))) (other-by h (closedBy s 32 (numberAt s at)) refl))
+  pub id-other : (k : ℕ) → k ≤ 6 → ((q : ℕ) → Is (pos n) q ≡ closedBy s 32 (numberAt s at) → ⊥) → asRow 0 none ≡ idRowAt n s at (suc (suc k))
+  id-other k short h =
+      sym (row-in (ifSuits (hasId n)) s at (suc (suc k)) (in-range (suc (suc k)) (omega arith) (omega arith))
+      ∙ ap (asRow (at + length (line (drop at s)))) (other-by k h (closedBy s 32 (numberAt s at)) refl))
+
+  -- it is another one
+  pub other-id : (x : ℤ) (p : ℕ) → Is x p ≡ closedBy s 32 (numberAt s at) → eqZ (pos n) x ≡ false → (q : ℕ) → Is (pos n) q ≡ closedBy s 32 (numberAt s at) → ⊥
+  other-id x p e f q h = let z : pos n ≡ x = cc in never (sym f ∙ ap (eqZ (pos n)) (sym z) ∙ eqZ-same (pos n))

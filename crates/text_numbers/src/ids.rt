@@ -17,29 +17,6 @@ ghost use lib.IntN.{pos};
 ghost use Rattle.rules_text.specs.declared.Number.the-variants.{Is};
 ghost use Rattle.rules_text.specs.Offsets.{numberAt, closedBy, rowAt, threeOf, idRowAt};
 
-// An id and the space that closes it: their first two bytes as one number, and how many bytes they have.
-struct Head {
-    word: u64,
-    width: usize,
-}
-
-fn head_of(n: usize) -> Head
-    requires { ⌜ n < 100 ⌝ }
-    ensures { λ r. ⌜ (n < 10 → (r .word ≡ 8240 + n) × (r .width ≡ 2)) ⌝ }
-    ensures { λ r. ⌜ (10 ≤ n → (r .word ≡ 12336 + n / 10 + n % 10 * 256) × (r .width ≡ 3)) ⌝ }
-{
-    if n < 10 {
-        return Head {
-            word: 8240 + n as u64,
-            width: 2,
-        };
-    }
-    Head {
-        word: 12336 + n as u64 / 10 + n as u64 % 10 * 256,
-        width: 3,
-    }
-}
-
 // The offset after the id n and a space at an offset, or 0: numbers have no leading zeros, so the bytes tell.
 pub(crate) fn past_head(s: &[u8], at: usize, n: usize) -> usize
     requires { ⌜ (n < 100) × (at + 3 ≤ length (now s)) ⌝ }
@@ -47,28 +24,34 @@ pub(crate) fn past_head(s: &[u8], at: usize, n: usize) -> usize
     ensures { λ r. ⌜ ((r ≡ 0 → ⊥) → Is (pos n) r ≡ closedBy (now (s .entry)) 32 (numberAt (now (s .entry)) at)) ⌝ }
     ensures { λ r. ⌜ (r ≡ 0 → (q : ℕ) → Is (pos n) q ≡ closedBy (now (s .entry)) 32 (numberAt (now (s .entry)) at) → ⊥) ⌝ }
 {
-    let head = head_of(n);
-    if wide(s[at]) + wide(s[at + 1]) * 256 != head.word {
+    let word = wide(s[at]) + wide(s[at + 1]) * 256;
+    if n < 10 {
+        if word != 8240 + n as u64 {
+            return 0;
+        }
+        return at + 2;
+    }
+    if word != 12336 + n as u64 / 10 + n as u64 % 10 * 256 {
         return 0;
     }
-    let last = at + head.width - 1;
-    if s[last] != 32 {
+    if s[at + 2] != 32 {
         return 0;
     }
-    last + 1
+    at + 3
 }
 
-// The offset below which 20 bytes are left of a text, or 0 where the id n has more than two digits.
-pub(crate) fn near_end(len: usize, n: usize) -> usize
-    ensures { λ r. ⌜ ((p : ℕ) → p < r → (n < 100) × (p + 20 ≤ len)) ⌝ }
+// The offset below which k bytes are left of a text, or 0 where the id n has more than two digits.
+pub(crate) fn room(len: usize, n: usize, k: usize) -> usize
+    requires { ⌜ 1 ≤ k ⌝ }
+    ensures { λ r. ⌜ ((p : ℕ) → p < r → (n < 100) × (p + k ≤ len)) ⌝ }
 {
-    if len < 20 {
+    if len < k {
         return 0;
     }
     if 99 < n {
         return 0;
     }
-    len - 19
+    len - k + 1
 }
 
 // The line at an offset of the id n and, from another offset on, a short id and a short number, or no row.
@@ -93,7 +76,7 @@ fn id_and_number(s: &[u8], at: usize, n: usize, p: usize) -> Three
 pub fn ids_triple_at(s: &[u8], at: usize, n: usize) -> Three
     ensures { λ r. ⌜ r ≡ threeOf (idRowAt n (now (s .entry)) at 3) ⌝ }
 {
-    if near_end(s.len(), n) <= at {
+    if room(s.len(), n, 20) <= at {
         return any_id_three(s, at, n);
     }
     let p = past_head(s, at, n);

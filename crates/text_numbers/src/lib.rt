@@ -1,8 +1,9 @@
 // Numbers at an offset of a lent text (paper 01, Text). The contracts cite the definitions of rules_text.
 pub mod ids;
+pub mod rows;
 
-use crate::ids::near_end;
 use crate::ids::past_head;
+use crate::ids::room;
 use rules_text::Magnitude;
 use rules_text::Number;
 use rules_text::Three;
@@ -388,7 +389,7 @@ fn any_id_three(s: &[u8], at: usize, n: usize) -> Three
 pub fn id_triple_at(s: &[u8], at: usize, n: usize) -> Three
     ensures { λ r. ⌜ r ≡ threeOf (idRowAt n (now (s .entry)) at 3) ⌝ }
 {
-    if near_end(s.len(), n) <= at {
+    if room(s.len(), n, 20) <= at {
         return any_id_three(s, at, n);
     }
     let p = past_head(s, at, n);

@@ -1,10 +1,13 @@
 // Tables of lines that count up by one, at an offset of a lent text (paper 01, Text): portfolios, resources, constraints and outputs.
 // The contracts cite the definitions of rules_text.
 use cells::put;
-use text_lines::id_row_at;
+use text_numbers::rows::four_at;
+use text_numbers::rows::mark_at;
+use text_numbers::rows::one_at;
+use text_numbers::rows::two_at;
 ghost use mathlib.Core.Path.{_≡_};
-ghost use mathlib.Core.List.{map};
-ghost use Prim.Native.Nat.{suc, _+_, _≤_};
+ghost use mathlib.Core.List.{[], _∷_, map, flatMap};
+ghost use Prim.Native.Nat.{_+_};
 ghost use lib.ListN.{length, drop};
 ghost use lib.Seq.{sets};
 ghost use Rattle.rules_text.specs.Numbers.{lines};
@@ -17,85 +20,87 @@ pub struct Table {
     pub next: usize,
 }
 
-// The lines of an id that counts up and m values, at an offset: all are counted, and of the first four values of each those for which there are cells are kept.
-// Every other cell stays as it was.
-fn columns_at(
-    s: &[u8],
-    at: usize,
-    m: usize,
-    a: &mut [i64],
-    b: &mut [i64],
-    c: &mut [i64],
-    d: &mut [i64],
-) -> Table
-    requires { ⌜ m ≤ 7 ⌝ }
-    ensures { λ r. ⌜ r .count ≡ length (counting (suc m) (lines (drop at (now (s .entry))))) ⌝ }
-    ensures { λ r. ⌜ now (a .exit) ≡ sets (now (a .entry)) 0 (map (cell 1) (counting (suc m) (lines (drop at (now (s .entry)))))) ⌝ }
-    ensures { λ r. ⌜ now (b .exit) ≡ sets (now (b .entry)) 0 (map (cell 2) (counting (suc m) (lines (drop at (now (s .entry)))))) ⌝ }
-    ensures { λ r. ⌜ now (c .exit) ≡ sets (now (c .entry)) 0 (map (cell 3) (counting (suc m) (lines (drop at (now (s .entry)))))) ⌝ }
-    ensures { λ r. ⌜ now (d .exit) ≡ sets (now (d .entry)) 0 (map (cell 4) (counting (suc m) (lines (drop at (now (s .entry)))))) ⌝ }
+// The lines of an id that counts up and a value, at an offset: all are counted, and the values for which there are cells are kept. Every other cell stays as it was.
+// The portfolios' sellers. Its reader is called here only, so that it is compiled into this loop.
+pub fn sellers_at(s: &[u8], at: usize, cells: &mut [i64]) -> Table
+    ensures { λ r. ⌜ r .count ≡ length (counting 2 (lines (drop at (now (s .entry))))) ⌝ }
+    ensures { λ r. ⌜ now (cells .exit) ≡ sets (now (cells .entry)) 0 (map (cell 1) (counting 2 (lines (drop at (now (s .entry)))))) ⌝ }
     ensures { λ r. ⌜ lines (drop (r .next) (now (s .entry))) ≡ drop (r .count) (lines (drop at (now (s .entry)))) ⌝ }
     ensures { λ r. ⌜ r .next ≡ at + bytesOf (r .count) (lines (drop at (now (s .entry)))) ⌝ }
 {
     let mut count = 0;
     let mut next = at;
     loop {
-        let row = id_row_at(s, next, m + 1, count);
-        let v = row.v;
-        if !row.ok {
+        let row = mark_at(s, next, count);
+        if row.next == 0 {
             return Table { count, next };
         }
-        put(a, count, v[1]);
-        put(b, count, v[2]);
-        put(c, count, v[3]);
-        put(d, count, v[4]);
-        count += 1;
+        put(cells, count, row.a);
         next = row.next;
+        count += 1;
     }
 }
 
-// The lines of an id that counts up and a value, at an offset: all are counted, and the values for which there are cells are kept. Every other cell stays as it was.
+// The same, for the constraints' marks, with a reader that is called here only.
 pub fn marks_at(s: &[u8], at: usize, cells: &mut [i64]) -> Table
     ensures { λ r. ⌜ r .count ≡ length (counting 2 (lines (drop at (now (s .entry))))) ⌝ }
     ensures { λ r. ⌜ now (cells .exit) ≡ sets (now (cells .entry)) 0 (map (cell 1) (counting 2 (lines (drop at (now (s .entry)))))) ⌝ }
     ensures { λ r. ⌜ lines (drop (r .next) (now (s .entry))) ≡ drop (r .count) (lines (drop at (now (s .entry)))) ⌝ }
     ensures { λ r. ⌜ r .next ≡ at + bytesOf (r .count) (lines (drop at (now (s .entry)))) ⌝ }
 {
-    let mut b = [0i64; 1];
-    let mut c = [0i64; 1];
-    let mut d = [0i64; 1];
-    columns_at(s, at, 1, cells, &mut b, &mut c, &mut d)
+    let mut count = 0;
+    let mut next = at;
+    loop {
+        let row = one_at(s, next, count);
+        if row.next == 0 {
+            return Table { count, next };
+        }
+        put(cells, count, row.a);
+        next = row.next;
+        count += 1;
+    }
 }
 
-// The same with two values: the resource table's portfolios and starts.
-pub fn two_columns_at(s: &[u8], at: usize, portfolio: &mut [i64], start: &mut [i64]) -> Table
+// The same with two values, in turn: the portfolio and the start of each resource.
+pub fn owners_at(s: &[u8], at: usize, cells: &mut [i64]) -> Table
     ensures { λ r. ⌜ r .count ≡ length (counting 3 (lines (drop at (now (s .entry))))) ⌝ }
-    ensures { λ r. ⌜ now (portfolio .exit) ≡ sets (now (portfolio .entry)) 0 (map (cell 1) (counting 3 (lines (drop at (now (s .entry)))))) ⌝ }
-    ensures { λ r. ⌜ now (start .exit) ≡ sets (now (start .entry)) 0 (map (cell 2) (counting 3 (lines (drop at (now (s .entry)))))) ⌝ }
+    ensures { λ r. ⌜ now (cells .exit) ≡ sets (now (cells .entry)) 0 (flatMap (λ row. cell 1 row ∷ cell 2 row ∷ []) (counting 3 (lines (drop at (now (s .entry)))))) ⌝ }
     ensures { λ r. ⌜ lines (drop (r .next) (now (s .entry))) ≡ drop (r .count) (lines (drop at (now (s .entry)))) ⌝ }
     ensures { λ r. ⌜ r .next ≡ at + bytesOf (r .count) (lines (drop at (now (s .entry)))) ⌝ }
 {
-    let mut c = [0i64; 1];
-    let mut d = [0i64; 1];
-    columns_at(s, at, 2, portfolio, start, &mut c, &mut d)
+    let mut count = 0;
+    let mut next = at;
+    loop {
+        let row = two_at(s, next, count);
+        if row.next == 0 {
+            return Table { count, next };
+        }
+        put(cells, 2 * count, row.a);
+        put(cells, 2 * count + 1, row.b);
+        next = row.next;
+        count += 1;
+    }
 }
 
 // The same with four values: those of an interval's resources.
-pub fn outputs_at(
-    s: &[u8],
-    at: usize,
-    lmp: &mut [i64],
-    dispatch: &mut [i64],
-    available: &mut [i64],
-    floor: &mut [i64],
-) -> Table
+pub fn outputs_at(s: &[u8], at: usize, cells: &mut [i64]) -> Table
     ensures { λ r. ⌜ r .count ≡ length (counting 5 (lines (drop at (now (s .entry))))) ⌝ }
-    ensures { λ r. ⌜ now (lmp .exit) ≡ sets (now (lmp .entry)) 0 (map (cell 1) (counting 5 (lines (drop at (now (s .entry)))))) ⌝ }
-    ensures { λ r. ⌜ now (dispatch .exit) ≡ sets (now (dispatch .entry)) 0 (map (cell 2) (counting 5 (lines (drop at (now (s .entry)))))) ⌝ }
-    ensures { λ r. ⌜ now (available .exit) ≡ sets (now (available .entry)) 0 (map (cell 3) (counting 5 (lines (drop at (now (s .entry)))))) ⌝ }
-    ensures { λ r. ⌜ now (floor .exit) ≡ sets (now (floor .entry)) 0 (map (cell 4) (counting 5 (lines (drop at (now (s .entry)))))) ⌝ }
+    ensures { λ r. ⌜ now (cells .exit) ≡ sets (now (cells .entry)) 0 (flatMap (λ row. cell 1 row ∷ cell 2 row ∷ cell 3 row ∷ cell 4 row ∷ []) (counting 5 (lines (drop at (now (s .entry)))))) ⌝ }
     ensures { λ r. ⌜ lines (drop (r .next) (now (s .entry))) ≡ drop (r .count) (lines (drop at (now (s .entry)))) ⌝ }
     ensures { λ r. ⌜ r .next ≡ at + bytesOf (r .count) (lines (drop at (now (s .entry)))) ⌝ }
 {
-    columns_at(s, at, 4, lmp, dispatch, available, floor)
+    let mut count = 0;
+    let mut next = at;
+    loop {
+        let row = four_at(s, next, count);
+        if row.next == 0 {
+            return Table { count, next };
+        }
+        put(cells, 4 * count, row.a);
+        put(cells, 4 * count + 1, row.b);
+        put(cells, 4 * count + 2, row.c);
+        put(cells, 4 * count + 3, row.d);
+        next = row.next;
+        count += 1;
+    }
 }

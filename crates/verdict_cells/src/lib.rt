@@ -1,32 +1,13 @@
-// Verdicts in lent slices of numbers: one put, and those of an interval read. The contracts cite the definitions of rules_state.
+// The verdicts of an interval read from a lent slice of numbers. The contracts cite the definitions of rules_state.
 use rules_interval::Interval;
 use rules_path::Finding;
 use rules_path::Market;
 use rules_path::Verdict;
 ghost use mathlib.Core.Path.{_≡_};
 ghost use Prim.Native.Nat.{_<_};
-ghost use lib.ListN.{length};
-ghost use lib.Seq.{sets};
-ghost use Rattle.rules_state.specs.Layout.{mostConstraints, mostPortfolios, verdictWidth};
+ghost use Rattle.rules_state.specs.Layout.{mostConstraints, mostPortfolios};
 ghost use Rattle.rules_state.specs.States.{wholesIn};
-ghost use Rattle.rules_state.specs.Verdicts.{findingBy, verdictCells, verdictIn, verdictsIn};
-
-// Puts a verdict from a cell on: its finding, demand, left, the sellers named, and what each portfolio withholds.
-pub fn put_verdict(out: &mut [i64], at: usize, verdict: Verdict)
-    ensures room { λ x. ⌜ length (verdictCells verdict) ≡ verdictWidth ⌝ }
-    ensures cells { λ x. ⌜ now (out .exit) ≡ sets (now (out .entry)) at (verdictCells verdict) ⌝ }
-{
-    if out.len() <= at {
-        return;
-    }
-    let finding = verdict.finding;
-    let withheld = verdict.withheld;
-    cells::put_whole(out, at, verdict::finding_number(finding));
-    cells::put_whole(out, at + 1, verdict.demand);
-    cells::put_whole(out, at + 2, verdict.left);
-    cells::put_whole(out, at + 3, verdict.named as u64);
-    cells::put_wholes(out, at + 4, &withheld);
-}
+ghost use Rattle.rules_state.specs.Verdicts.{findingBy, verdictIn, verdictsIn};
 
 // The finding of a number: any other than 0 and 1 is not binding.
 fn finding_by(number: i64) -> Finding

@@ -18,32 +18,29 @@ ghost use Rattle.rules_page.specs.Pages.{verdictRows, sellerRows, verdictTable,
 ghost use Rattle.rules_page.specs.Weights.{leads};
 ghost use Rattle.rules_state.specs.Verdicts.{findingBy, verdictIn, verdictsIn};
 ghost use Rattle.verdict_page.specs.Orders.{weightIn, isLeft, orSixteen};
-ghost use Rattle.verdict_page.specs.Shown.{shownWhole, withheldIn};
+ghost use Rattle.verdict_page.specs.Shown.{isJudged, shownWhole, withheldIn};
 
 // Verdicts and the sellers named are put where at least this many bytes are left.
 pub const PAGE_ROOM: usize = 49_152;
 
-// The number of a finding: any other than 0 and 1 is not binding.
-fn finding_of(finding: i64) -> i64
-    ensures { λ r. ⌜ r ≡ pos (findingNumber (findingBy finding)) ⌝ }
+// Whether a cell holds the finding of a constraint that binds: any number other than 0 and 1 is not binding.
+fn is_judged(finding: i64) -> bool
+    ensures { λ r. ⌜ r ≡ isJudged finding ⌝ }
 {
     if finding == 0 {
-        return 0;
+        return true;
     }
     if finding == 1 {
-        return 1;
+        return true;
     }
-    2
+    false
 }
 
 // A cell of a verdict with this finding: 0 where it is negative, or where the constraint is not binding.
 fn shown_cell(finding: i64, x: i64) -> i64
     ensures { λ r. ⌜ r ≡ pos (shownWhole (findingBy finding) (natOf x)) ⌝ }
 {
-    if finding == 0 {
-        return number::max(0, x);
-    }
-    if finding == 1 {
+    if is_judged(finding) {
         return number::max(0, x);
     }
     0
@@ -67,6 +64,20 @@ fn put_line(out: &mut [u8], at: usize, row: [i64; 5], k: usize) -> usize
     }
 }
 
+// The values of the line of a verdict on constraint c.
+fn verdict_row(i: u64, c: usize, finding: i64, demand: i64, left: i64) -> [i64; 5]
+    ensures { λ r. ⌜ r ≡ pos (printableOf i) ∷ pos (printableOf c) ∷ pos (findingNumber (findingBy finding)) ∷ pos (shownWhole (findingBy finding) (natOf demand)) ∷ pos (shownWhole (findingBy finding) (natOf left)) ∷ [] ⌝ }
+{
+    let interval = printable(i);
+    let constraint = printable(c as u64);
+    if is_judged(finding) {
+        let wanted = number::max(0, demand);
+        let rest = number::max(0, left);
+        return [interval, constraint, finding, wanted, rest];
+    }
+    [interval, constraint, 2, 0, 0]
+}
+
 // Puts the verdict on constraint c as a line, and answers the offset after it.
 fn put_verdict(
     out: &mut [u8],
@@ -82,13 +93,7 @@ fn put_verdict(
     let finding = verdicts[from];
     let demand = verdicts[from + 1];
     let left = verdicts[from + 2];
-    let row = [
-        printable(i),
-        printable(c as u64),
-        finding_of(finding),
-        shown_cell(finding, demand),
-        shown_cell(finding, left),
-    ];
+    let row = verdict_row(i, c, finding, demand, left);
     put_line(out, at, row, 5)
 }
 

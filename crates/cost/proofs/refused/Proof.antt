@@ -1,13 +1,11 @@
 -- `cost::refused` meets its contract. Assumes nothing.
 use mathlib.Core.Path.{refl}
-use Rattle.rules_number.specs.Over.{padded}
 use Rattle.rules_curve.specs.Curves.{blankCurve}
-use Rattle.rules_state.specs.States.{curveCells}
 use Rattle.cost.proofs.refused.Statement.{statement}
 use Rattle.cost.proofs.refused.Tie as tie
 
 returns : tie.Need-returns
-unfolding blankCurve curveCells padded
+unfolding blankCurve
 returns c = refl
 
 pub refused-spec : {M : Type 1} → statement M

@@ -10,7 +10,7 @@ use lib.Seq.{sets, length-take-le}
 use Rattle.rules_number.proofs.Kit.{rd, came}
 use Rattle.rules_curve.specs.Refusals.{outcomeNumber}
 use Rattle.rules_curve.proofs.RefusalLaws.{refused-number}
-use Rattle.rules_interval.specs.Intervals.{intervalOf, intervalRefusal}
+use Rattle.rules_interval.specs.Intervals.{intervalRefusal}
 use Rattle.rules_interval.specs.declared.Interval.{Interval}
 use Rattle.rules_interval.proofs.IntervalLaws.{in-limits}
 use Rattle.rules_path.specs.declared.Market.{Market}
@@ -19,6 +19,7 @@ use Rattle.rules_state.specs.Causes.{causesCells}
 use Rattle.rules_state.specs.Verdicts.{judgedCells}
 use Rattle.rules_state.specs.Takes.{ifAccepted}
 use Rattle.rules_state.proofs.TakeLaws.{accepted-length, not-written, written-zero}
+use Rattle.interval.specs.Over.{intervalOver}
 use Rattle.cutting.specs.Entering.{Lists}
 use Rattle.cutting.proofs.EnteringLaws.{priced}
 use Rattle.cutting.proofs.CellLaws.{taken-causes}
@@ -31,7 +32,7 @@ market s = marketIn (s .args .state .now)
 abbrev values : tie.Start → Interval
 values s =
     let a = s .args in
-    intervalOf (a .constraints) (a .shadow .now) (a .resources) (a .lmp .now) (a .dispatch .now) (a .available .now) (a .floor .now) (a .factors .now) (a .parameter)
+    intervalOver (a .constraints) (a .shadow .now) (a .resources) (a .outputs .now) (a .factors .now) (a .parameter)
 
 abbrev number : tie.Start → ℕ
 number s = intervalRefusal (market s .resources) (values s)
@@ -44,7 +45,7 @@ abbrev blank : List ℤ
 blank = replicate 640 (pos 0)
 
 abbrev judged : tie.After-judged-into → List ℤ
-judged j = j .judged-into .last .1 .1 .1 .1 .1 .1 .1 .1 .1 .1 .0
+judged j = j .judged-into .last .1 .1 .1 .1 .1 .1 .1 .0
 
 abbrev start : tie.After-judged-into → tie.Start
 start j = j .before .before

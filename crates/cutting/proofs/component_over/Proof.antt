@@ -49,14 +49,18 @@ factor-is c = c .factor-at .ensures
 factor-size : (c : tie.After-factor-at Inv-loop μ-loop) → natAbs (c .factor-at .result) ≤ 1000000
 factor-size c = let l = c .before .before in rw (factor-is c) (l .before .before .before .pre .factor (l .before .loop .k) (l .loop-test .taken))
 
--- the code's expressions in a turn
-abbrev product : tie.After-sum Inv-loop μ-loop → Meant
-product c =
-    let l = c .before .before .before in
-    let s = l .before .before .before in
-    local (c .before .factor-at .result) (factor-size (c .before)) tt ⊗ local (cell (s .args .shadow .now) (column l)) (s .pre .price (l .before .loop .k) (l .loop-test .taken)) tt
+price-is : (c : tie.After-cell-at Inv-loop μ-loop)
+    → c .cell-at .result ≡ cell (c .before .before .before .before .before .before .args .shadow .now) (column (c .before .before .before))
+price-is c = c .cell-at .ensures
 
-abbrev next : tie.After-sum Inv-loop μ-loop → Meant
+price-size : (c : tie.After-cell-at Inv-loop μ-loop) → natAbs (c .cell-at .result) ≤ 100000000
+price-size c = let l = c .before .before .before in rw (price-is c) (l .before .before .before .pre .price (l .before .loop .k) (l .loop-test .taken))
+
+-- the code's expressions in a turn
+abbrev product : tie.After-cell-at Inv-loop μ-loop → Meant
+product c = local (c .before .factor-at .result) (factor-size (c .before)) tt ⊗ local (c .cell-at .result) (price-size c) tt
+
+abbrev next : tie.After-cell-at Inv-loop μ-loop → Meant
 next c = bits (c .before .before .before .before .loop .sum) (summed (c .before .before .before .before)) ⊕ kept (product c) tt
 
 mul-row : tie.Need-mul-row Inv-loop μ-loop
@@ -69,6 +73,9 @@ loop-holds : tie.Need-loop-holds Inv-loop μ-loop
 unfolding sumOver
 loop-holds c = (omega arith, refl)
 
+cast-c : tie.Need-cast-c Inv-loop μ-loop
+cast-c c = omega (arith, small (c .before))
+
 add-factor-at : tie.Need-add-factor-at Inv-loop μ-loop
 add-factor-at c = omega (arith, small (c .before), c .before .before .before .before .pre .row)
 
@@ -78,13 +85,7 @@ factor-at-requires c κs =
     λ e. omega (arith, leb-true (s .args .r * 32 + 32) (length (s .args .factors .now)) e, small (c .before))
 
 mul-sum : tie.Need-mul-sum Inv-loop μ-loop
-mul-sum c = omega (arith, small (c .before .before))
-
-element-copy-out-sum : tie.Need-element-copy-out-sum Inv-loop μ-loop
-element-copy-out-sum c = omega (arith, small (c .before .before))
-
-mul-sum-2 : tie.Need-mul-sum-2 Inv-loop μ-loop
-mul-sum-2 c = fits (product c) tt
+mul-sum c = fits (product c) tt
 
 add-sum : tie.Need-add-sum Inv-loop μ-loop
 add-sum c = fits (next c) tt
@@ -93,7 +94,7 @@ loop-again : tie.Need-loop-again Inv-loop μ-loop
 loop-again c =
     let l = c .before .before .before in
     let s = l .before .before .before in
-    (omega arith, kept (next c) tt .same ∙ rw (l .before .loop .inv .1, factor-is (c .before)) (sym (front-next (term s) (s .args .entering .now) (l .before .loop .k) (l .loop-test .taken))))
+    (omega arith, kept (next c) tt .same ∙ rw (l .before .loop .inv .1, factor-is (c .before), price-is c) (sym (front-next (term s) (s .args .entering .now) (l .before .loop .k) (l .loop-test .taken))))
 
 sub-result : tie.Need-sub-result Inv-loop μ-loop
 sub-result c = fits (const 0 ⊖ bits (c .before .loop .sum) (summed (c .before))) tt
@@ -107,5 +108,5 @@ returns c =
 
 pub component-over-spec : {M : Type 1} → statement M
 component-over-spec =
-    tie.close (tie.spec Inv-loop μ-loop mul-row add-inside loop-holds (λ c. search needs) (λ c. search needs) add-factor-at factor-at-requires mul-sum
-    element-copy-out-sum mul-sum-2 add-sum (λ c. search needs) (λ c. search needs) loop-again sub-result returns)
+    tie.close (tie.spec Inv-loop μ-loop mul-row add-inside loop-holds (λ c. search needs) cast-c add-factor-at factor-at-requires
+    (λ c κs. search needs) mul-sum add-sum (λ c. search needs) (λ c. search needs) loop-again sub-result returns)

@@ -12,7 +12,7 @@ use mir.Val.{toZ, ofZ}
 use Rattle.rules_number.proofs.Kit.{came}
 use Rattle.rules_curve.specs.Refusals.{outcomeNumber}
 use Rattle.rules_curve.proofs.RefusalLaws.{refused-number}
-use Rattle.rules_interval.specs.Intervals.{intervalOf, intervalRefusal}
+use Rattle.rules_interval.specs.Intervals.{intervalRefusal}
 use Rattle.rules_interval.specs.declared.Interval.{Interval}
 use Rattle.rules_interval.proofs.IntervalLaws.{in-limits}
 use Rattle.rules_path.specs.declared.Market.{Market}
@@ -21,6 +21,7 @@ use Rattle.rules_state.specs.States.{cellOf, marketIn}
 use Rattle.rules_state.specs.Verdicts.{judgedCells}
 use Rattle.rules_state.specs.Takes.{ifAccepted}
 use Rattle.rules_state.proofs.TakeLaws.{accepted-length, not-written, written-zero}
+use Rattle.interval.specs.Over.{intervalOver}
 use Rattle.cutting.specs.Places.{countAt, counted}
 use Rattle.cutting.specs.Entering.{Lists}
 use Rattle.cutting.proofs.EnteringLaws.{priced}
@@ -35,7 +36,7 @@ market s = marketIn (s .args .state .now)
 abbrev values : tie.Start → Interval
 values s =
     let a = s .args in
-    intervalOf (a .constraints) (a .shadow .now) (a .resources) (a .lmp .now) (a .dispatch .now) (a .available .now) (a .floor .now) (a .factors .now) (a .parameter)
+    intervalOver (a .constraints) (a .shadow .now) (a .resources) (a .outputs .now) (a .factors .now) (a .parameter)
 
 abbrev number : tie.Start → ℕ
 number s = intervalRefusal (market s .resources) (values s)
@@ -48,7 +49,7 @@ start j = j .before .before .before
 
 -- the verdicts' cells afterwards
 abbrev judged : tie.After-judged-into → List ℤ
-judged j = j .judged-into .last .1 .1 .1 .1 .1 .1 .1 .1 .1 .1 .0
+judged j = j .judged-into .last .1 .1 .1 .1 .1 .1 .1 .0
 
 judged-number : (j : tie.After-judged-into) → outcomeNumber (j .judged-into .result) ≡ number (start j)
 judged-number j = rw (held (start j)) at (j .judged-into .ensures .0)

@@ -20,8 +20,8 @@ abbrev μ-loop : tie.MeasureT-loop
 loop-holds : tie.Need-loop-holds Inv-loop μ-loop
 loop-holds c = (omega arith, lists-none _ _ (c .pre .1 .0))
 
-mul-list : tie.Need-mul-list Inv-loop μ-loop
-mul-list c = omega (arith, c .before .loop .inv .1 .few)
+cast-list : tie.Need-cast-list Inv-loop μ-loop
+cast-list c = omega (arith, c .before .before .pre .1 .1)
 
 element-write-list : tie.Need-element-write-list Inv-loop μ-loop
 element-write-list c = omega (arith, c .before .loop .inv .1 .few, c .before .loop .inv .1 .room, c .before .before .pre .1 .1)
@@ -50,5 +50,5 @@ returns c =
 
 pub entering-in-spec : {M : Type 1} → statement M
 entering-in-spec =
-    tie.close (tie.spec Inv-loop μ-loop loop-holds mul-list element-write-list (λ c. omega arith) (λ c. omega arith) (λ c. omega arith)
+    tie.close (tie.spec Inv-loop μ-loop loop-holds cast-list element-write-list (λ c. omega arith) (λ c. omega arith) (λ c. omega arith)
     (λ c κs. search needs) add-count (λ c. omega arith) (λ c. omega arith) loop-again returns)

@@ -13,6 +13,7 @@ use Rattle.rules_number.specs.Over.{listed}
 use Rattle.rules_number.proofs.Kit.{rd, came}
 use Rattle.rules_number.proofs.OverLaws.{listed-at, listed-length}
 use Rattle.rules_state.specs.Layout.{mostResources, causeWidth}
+use Rattle.rules_state.specs.Intervals.{outputsIn}
 use Rattle.cells.proofs.PutLaws.{BlocksLeft, blocks-begin, blocks-go-on, blocks-end}
 use Rattle.cutting.specs.Entering.{causeOver}
 use Rattle.cutting.proofs.CellLaws.{cause-room}
@@ -24,11 +25,11 @@ abbrev all : List ℕ
 all = listed (λ r. r) mostResources
 
 abbrev Inv-loop : tie.InvT-loop
-Inv-loop causes₀ entering shadow resources lmp dispatch factors parameter r₀ causes r =
-    (r ≤ mostResources) × (length causes ≡ length causes₀) × BlocksLeft (causeOver resources lmp dispatch factors shadow entering (toZ w64 parameter)) causeWidth all causes₀ 0 causes r
+Inv-loop causes₀ entering shadow resources outputs factors parameter r₀ causes r =
+    (r ≤ mostResources) × (length causes ≡ length causes₀) × BlocksLeft (causeOver resources (outputsIn outputs 0) (outputsIn outputs 1) factors shadow entering (toZ w64 parameter)) causeWidth all causes₀ 0 causes r
 
 abbrev μ-loop : tie.MeasureT-loop
-μ-loop causes₀ entering shadow resources lmp dispatch factors parameter r₀ causes r = mostResources - r
+μ-loop causes₀ entering shadow resources outputs factors parameter r₀ causes r = mostResources - r
 
 loop-holds : tie.Need-loop-holds Inv-loop μ-loop
 loop-holds c = (omega arith, refl, blocks-begin _ causeWidth all (c .before .args .causes .now) 0)
@@ -45,13 +46,13 @@ loop-again c =
     let s = l .before .before .before in
     let a = s .args in
     let r = l .before .loop .r in
-    let f = causeOver (a .resources) (a .lmp .now) (a .dispatch .now) (a .factors .now) (a .shadow .now) (a .entering .now) (rd (a .parameter)) in
+    let f = causeOver (a .resources) (outputsIn (a .outputs .now) 0) (outputsIn (a .outputs .now) 1) (a .factors .now) (a .shadow .now) (a .entering .now) (rd (a .parameter)) in
     let is = listed-at (λ i. i) 0 mostResources r (l .loop-test .taken) in
     let z : 0 + causeWidth * r ≡ causeWidth * r = omega arith in
     let out = p .put-cause .ensures in (
       omega arith,
       ap length out ∙ length-sets (l .before .loop .causes) (causeWidth * r) (f r) ∙ l .before .loop .inv .1,
-      blocks-go-on f causeWidth all (a .causes .now) 0 0 (l .before .loop .causes) r _ (l .before .loop .inv .2) (omega (arith, listed-length (λ (i : ℕ). i) mostResources)) (cause-room (a .resources) (a .lmp .now) (a .dispatch .now) (a .factors .now) (a .shadow .now) (a .entering .now) (rd (a .parameter)) (getD all r 0)) (rw (z, is) out),
+      blocks-go-on f causeWidth all (a .causes .now) 0 0 (l .before .loop .causes) r _ (l .before .loop .inv .2) (omega (arith, listed-length (λ (i : ℕ). i) mostResources)) (cause-room (a .resources) (outputsIn (a .outputs .now) 0) (outputsIn (a .outputs .now) 1) (a .factors .now) (a .shadow .now) (a .entering .now) (rd (a .parameter)) (getD all r 0)) (rw (z, is) out),
     )
 
 same-length : tie.Need-same-length Inv-loop μ-loop

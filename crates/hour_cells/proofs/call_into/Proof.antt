@@ -11,13 +11,13 @@ use lib.Seq.{sets}
 use Rattle.rules_number.proofs.Kit.{came}
 use Rattle.rules_curve.specs.Refusals.{outcomeNumber}
 use Rattle.rules_curve.proofs.RefusalLaws.{refused-number}
-use Rattle.rules_interval.specs.Intervals.{intervalOf}
 use Rattle.rules_interval.specs.declared.Interval.{Interval}
 use Rattle.rules_hour.specs.Hours.{callRefusal}
 use Rattle.rules_state.specs.Calls.{intervalWritten}
 use Rattle.rules_state.specs.States.{standingIn, marketIn}
 use Rattle.rules_state.specs.Takes.{ifAccepted, standingWritten}
 use Rattle.rules_state.specs.Verdicts.{judgedCells}
+use Rattle.interval.specs.Over.{intervalOver}
 use Rattle.hour_cells.specs.Calls.{refusalBy, writtenBy}
 use Rattle.hour_cells.proofs.CallLaws.{by-kind, refused-so, begun}
 use Rattle.hour_cells.proofs.call_into.Statement.{statement}
@@ -30,17 +30,17 @@ held s = came (s .args .parameter) (s .fits .parameter .sfits)
 abbrev values : tie.Start → Interval
 values s =
     let a = s .args in
-    intervalOf (a .constraints) (a .shadow .now) (a .resources) (a .lmp .now) (a .dispatch .now) (a .available .now) (a .floor .now) (a .factors .now) (a .parameter)
+    intervalOver (a .constraints) (a .shadow .now) (a .resources) (a .outputs .now) (a .factors .now) (a .parameter)
 
 abbrev number : tie.Start → ℕ
 number s = callRefusal (marketIn (s .args .state .now)) (standingIn (s .args .state .now)) (values s)
 
 -- the verdicts' cells after a pass, and after an interval
 abbrev told : tie.After-pass-into → List ℤ
-told t = t .pass-into .last .1 .1 .1 .1 .1 .1 .1 .1 .1 .1 .0
+told t = t .pass-into .last .1 .1 .1 .1 .1 .1 .1 .0
 
 abbrev found : tie.After-take-into → List ℤ
-found t = t .take-into .last .1 .1 .1 .1 .1 .1 .1 .1 .1 .1 .0
+found t = t .take-into .last .1 .1 .1 .1 .1 .1 .1 .0
 
 abbrev begin : tie.After-take-into → tie.Start
 begin t = t .before .before .before .before

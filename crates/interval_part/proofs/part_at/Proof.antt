@@ -3,24 +3,21 @@ use Prim.Native.Nat.{ℕ, _+_, _-_, _≤_, min}
 use native.Mathlib.Omega.{arith}
 use borrow.Author.Needs.{needs}
 use mathlib.Core.Path.{_≡_, refl, sym, ap, _∙_}
-use mathlib.Core.List.{List, map}
+use mathlib.Core.List.{List, [], _∷_, map, flatMap}
 use lib.ListN.{length, drop, replicate}
 use lib.Seq.{sets, length-sets}
 use lib.IntN.{ℤ, pos}
 use Rattle.rules_number.proofs.Kit.{came}
-use Rattle.rules_interval.specs.declared.Interval.{Interval}
 use Rattle.rules_text.specs.Numbers.{Row, lines}
-use Rattle.rules_text.specs.Tables.{found, headed, due, cell, counting, counted, rows}
-use Rattle.rules_text.specs.Offsets.{kept, bytesOf}
+use Rattle.rules_text.specs.Tables.{headed, due, cell, counting, counted, rows}
+use Rattle.rules_text.specs.Offsets.{bytesOf}
 use Rattle.rules_text.proofs.StageLaws.{Stage, text-few}
 use Rattle.rules_text.proofs.UsedLaws.{Used, used-names, used-then, rises-due}
 use Rattle.rules_parts.specs.Parts.{factorRows, withFactors, parameterOf, intervalOf, readInterval}
-use Rattle.rules_parts.proofs.IntervalStages.{by-fields}
 use Rattle.interval_part.proofs.ReadLaws.{read-used}
 use Rattle.interval_part.proofs.IntervalLaws.{constraint-stage, output-stage, factor-stage, unnamed-one, unnamed-two, unnamed-three, unnamed-four, no-parameter, whole}
 use Rattle.factor_table.proofs.FactorLaws.{length-stored}
-use Rattle.interval_part.specs.Taken.{seenOf}
-use Rattle.interval_part.proofs.PartLaws.{refused, no-offset, stored-seen}
+use Rattle.interval_part.proofs.PartLaws.{refused, no-offset, put-seen}
 use Rattle.interval_part.proofs.part_at.Statement.{statement}
 use Rattle.interval_part.proofs.part_at.Tie as tie
 
@@ -61,13 +58,13 @@ one k =
 
 -- ---- the interval's resources
 abbrev first : tie.After-outputs-at → tie.After-marks-at
-first k = k .before .before .before .before .before .before .before .before .before .before .before
+first k = k .before .before .before .before .before .before .before .before
 
 abbrev start2 : tie.After-outputs-at → tie.After-at-most
 start2 k = start1 (first k)
 
 abbrev past2 : tie.After-outputs-at → ℕ
-past2 k = k .before .before .before .before .before .before .at2 .given .0 .0
+past2 k = k .before .before .before .at2 .given .0 .0
 
 abbrev lines2 : tie.After-outputs-at → ℕ
 lines2 k = lines1 (first k) + 1 + k .outputs-at .result .count
@@ -78,11 +75,11 @@ rows2 k = counting 5 (lines (drop (past2 k) (text (start2 k))))
 two : (k : tie.After-outputs-at) → Stage (headed "resource lmp dispatch available floor\n" (counted 5)) (text (start2 k)) (lines1 (first k)) (first k .marks-at .result .next) (rows2 k) (lines2 k) (k .outputs-at .result .next)
 two k =
     output-stage (text (start2 k)) (lines1 (first k)) (first k .marks-at .result .next) (past2 k) (k .outputs-at .result .count) (k .outputs-at .result .next)
-    (sym (k .before .before .before .before .before .before .at2 .given .1) ∙ k .before .before .before .before .before .before .before .before .line-is2 .ensures) (k .outputs-at .ensures .0) (k .outputs-at .ensures .1 .1 .1 .1 .1 .1)
+    (sym (k .before .before .before .at2 .given .1) ∙ k .before .before .before .before .before .line-is2 .ensures) (k .outputs-at .ensures .0) (k .outputs-at .ensures .1 .1 .1)
 
 -- ---- the factors
 abbrev second : tie.After-factors-into → tie.After-outputs-at
-second k = k .before .before .before .before .before .before .before .before .before .before .before
+second k = k .before .before .before .before .before .before .before .before
 
 abbrev start3 : tie.After-factors-into → tie.After-at-most
 start3 k = start2 (second k)
@@ -153,7 +150,7 @@ returns : tie.Need-returns
 returns c =
     let l = c .before .before .before in
     let a = begun l in (
-      refused (text a) (c .no-part .result) (before a + 1) (c .no-part .ensures .0) (λ z. omega arith) _ _ (sym (whole-part a) ∙ unnamed-one (text a) (before a) (offset a) (sym (c .before .enum-told .given .1) ∙ l .line-is .ensures)) _ _ _ _ _ _,
+      refused (text a) (c .no-part .result) (before a + 1) (c .no-part .ensures .0) (λ z. omega arith) _ (sym (whole-part a) ∙ unnamed-one (text a) (before a) (offset a) (sym (c .before .enum-told .given .1) ∙ l .line-is .ensures)) _ _ _,
       no-offset (c .no-part .result) (before a + 1) (c .no-part .ensures .0) (c .no-part .ensures .1) (λ z. omega arith) (offset a) _ (lines (drop (offset a) (text a))),
     )
 
@@ -171,42 +168,33 @@ returns-2 c =
     let l = c .before .before .before in
     let k = l .before .before .before in
     let a = start1 k in (
-      refused (text a) (c .no-part2 .result) (lines1 k + 1) (c .no-part2 .ensures .0) (λ z. omega arith) _ _ (sym (whole-part a) ∙ unnamed-two (text a) (before a) (offset a) (rows1 k) (lines1 k) (k .marks-at .result .next) (one k) (sym (c .before .enum-told2 .given .1) ∙ l .line-is2 .ensures)) _ _ _ _ _ _,
+      refused (text a) (c .no-part2 .result) (lines1 k + 1) (c .no-part2 .ensures .0) (λ z. omega arith) _ (sym (whole-part a) ∙ unnamed-two (text a) (before a) (offset a) (rows1 k) (lines1 k) (k .marks-at .result .next) (one k) (sym (c .before .enum-told2 .given .1) ∙ l .line-is2 .ensures)) _ _ _,
       no-offset (c .no-part2 .result) (lines1 k + 1) (c .no-part2 .ensures .0) (c .no-part2 .ensures .1) (λ z. omega arith) (offset a) _ (lines (drop (offset a) (text a))),
     )
 
 add-line-3 : tie.Need-add-line-3
-add-line-3 c = let k = c .before .before .before .before in let h = small2 k in omega (arith, start2 k .before .before .good)
+add-line-3 c = let k = c .before in let h = small2 k in omega (arith, start2 k .before .before .good)
 
 add-line-4 : tie.Need-add-line-4
-add-line-4 c = let k = c .before .before .before .before in let h = small2 k in omega (arith, start2 k .before .before .good)
+add-line-4 c = let k = c .before in let h = small2 k in omega (arith, start2 k .before .before .good)
 
 add-no-part-3 : tie.Need-add-no-part-3
-add-no-part-3 c = let k = c .before .before .before .before .before .before .before .before in let h = small2 k in omega (arith, start2 k .before .before .good)
+add-no-part-3 c = let k = c .before .before .before .before .before in let h = small2 k in omega (arith, start2 k .before .before .good)
 
 same-length-2 : tie.Need-same-length-2
-same-length-2 c = let k = first (c .before .before .before .before .before .before .before .before .before) in kept-room (start1 k .before .before .args .shadow .now) (map (cell 1) (rows1 k)) (k .marks-at .ensures .1 .0)
+same-length-2 c = let k = first (c .before .before .before .before .before .before) in kept-room (start1 k .before .before .args .shadow .now) (map (cell 1) (rows1 k)) (k .marks-at .ensures .1 .0)
 
 same-length-3 : tie.Need-same-length-3
-same-length-3 c = let k = c .before .before .before .before .before .before .before .before .before in kept-room (start2 k .before .before .args .lmp .now) (map (cell 1) (rows2 k)) (k .outputs-at .ensures .1 .0)
-
-same-length-4 : tie.Need-same-length-4
-same-length-4 c = let k = c .before .before .before .before .before .before .before .before .before in kept-room (start2 k .before .before .args .dispatch .now) (map (cell 2) (rows2 k)) (k .outputs-at .ensures .1 .1 .0)
-
-same-length-5 : tie.Need-same-length-5
-same-length-5 c = let k = c .before .before .before .before .before .before .before .before .before in kept-room (start2 k .before .before .args .available .now) (map (cell 3) (rows2 k)) (k .outputs-at .ensures .1 .1 .1 .0)
-
-same-length-6 : tie.Need-same-length-6
-same-length-6 c = let k = c .before .before .before .before .before .before .before .before .before in kept-room (start2 k .before .before .args .floor .now) (map (cell 4) (rows2 k)) (k .outputs-at .ensures .1 .1 .1 .1 .0)
+same-length-3 c = let k = c .before .before .before .before .before .before in kept-room (start2 k .before .before .args .outputs .now) (flatMap (λ row. cell 1 row ∷ cell 2 row ∷ cell 3 row ∷ cell 4 row ∷ []) (rows2 k)) (k .outputs-at .ensures .1 .0)
 
 returns-3 : tie.Need-returns-3
 returns-3 c =
     let l = c .before .before .before in
-    let k = l .before .before .before .before .before .before in
+    let k = l .before .before .before in
     let j = first k in
     let a = start2 k in (
-      refused (text a) (c .no-part3 .result) (lines2 k + 1) (c .no-part3 .ensures .0) (λ z. omega arith) _ _ (sym (whole-part a) ∙ unnamed-three (text a) (before a) (offset a) (rows1 j) (lines1 j) (j .marks-at .result .next) (one j) (rows2 k) (lines2 k) (k .outputs-at .result .next) (two k)
-          (sym (c .before .enum-told3 .given .1) ∙ l .line-is3 .ensures)) _ _ _ _ _ _,
+      refused (text a) (c .no-part3 .result) (lines2 k + 1) (c .no-part3 .ensures .0) (λ z. omega arith) _ (sym (whole-part a) ∙ unnamed-three (text a) (before a) (offset a) (rows1 j) (lines1 j) (j .marks-at .result .next) (one j) (rows2 k) (lines2 k) (k .outputs-at .result .next) (two k)
+          (sym (c .before .enum-told3 .given .1) ∙ l .line-is3 .ensures)) _ _ _,
       no-offset (c .no-part3 .result) (lines2 k + 1) (c .no-part3 .ensures .0) (c .no-part3 .ensures .1) (λ z. omega arith) (offset a) _ (lines (drop (offset a) (text a))),
     )
 
@@ -219,23 +207,14 @@ add-line-6 c = let k = c .before .before in let h = small3 k in omega (arith, st
 add-no-part-4 : tie.Need-add-no-part-4
 add-no-part-4 c = let k = c .before .before .before .before .before .before in let h = small3 k in omega (arith, start3 k .before .before .good)
 
-same-length-7 : tie.Need-same-length-7
-same-length-7 c = let k = first (second (c .before .before .before .before .before .before .before)) in kept-room (start1 k .before .before .args .shadow .now) (map (cell 1) (rows1 k)) (k .marks-at .ensures .1 .0)
+same-length-4 : tie.Need-same-length-4
+same-length-4 c = let k = first (second (c .before .before .before .before .before .before .before)) in kept-room (start1 k .before .before .args .shadow .now) (map (cell 1) (rows1 k)) (k .marks-at .ensures .1 .0)
 
-same-length-8 : tie.Need-same-length-8
-same-length-8 c = let k = second (c .before .before .before .before .before .before .before) in kept-room (start2 k .before .before .args .lmp .now) (map (cell 1) (rows2 k)) (k .outputs-at .ensures .1 .0)
+same-length-5 : tie.Need-same-length-5
+same-length-5 c = let k = second (c .before .before .before .before .before .before .before) in kept-room (start2 k .before .before .args .outputs .now) (flatMap (λ row. cell 1 row ∷ cell 2 row ∷ cell 3 row ∷ cell 4 row ∷ []) (rows2 k)) (k .outputs-at .ensures .1 .0)
 
-same-length-9 : tie.Need-same-length-9
-same-length-9 c = let k = second (c .before .before .before .before .before .before .before) in kept-room (start2 k .before .before .args .dispatch .now) (map (cell 2) (rows2 k)) (k .outputs-at .ensures .1 .1 .0)
-
-same-length-10 : tie.Need-same-length-10
-same-length-10 c = let k = second (c .before .before .before .before .before .before .before) in kept-room (start2 k .before .before .args .available .now) (map (cell 3) (rows2 k)) (k .outputs-at .ensures .1 .1 .1 .0)
-
-same-length-11 : tie.Need-same-length-11
-same-length-11 c = let k = second (c .before .before .before .before .before .before .before) in kept-room (start2 k .before .before .args .floor .now) (map (cell 4) (rows2 k)) (k .outputs-at .ensures .1 .1 .1 .1 .0)
-
-same-length-12 : tie.Need-same-length-12
-same-length-12 c = ap length ((c .before .before .before .before .before .before .before) .factors-into .ensures .1 .0) ∙ length-stored _ _
+same-length-6 : tie.Need-same-length-6
+same-length-6 c = ap length ((c .before .before .before .before .before .before .before) .factors-into .ensures .1 .0) ∙ length-stored _ _
 
 returns-4 : tie.Need-returns-4
 returns-4 c =
@@ -244,8 +223,8 @@ returns-4 c =
     let i = second k in
     let j = first i in
     let a = start3 k in (
-      refused (text a) (c .no-part4 .result) (lines3 k + 1) (c .no-part4 .ensures .0) (λ z. omega arith) _ _ (sym (whole-part a) ∙ unnamed-four (text a) (before a) (offset a) (rows1 j) (lines1 j) (j .marks-at .result .next) (one j) (rows2 i) (lines2 i) (i .outputs-at .result .next) (two i)
-          (rows3 k) (lines3 k) (k .factors-into .result .next) (three k) (sym (c .before .enum-told4 .given .1) ∙ l .line-is4 .ensures)) _ _ _ _ _ _,
+      refused (text a) (c .no-part4 .result) (lines3 k + 1) (c .no-part4 .ensures .0) (λ z. omega arith) _ (sym (whole-part a) ∙ unnamed-four (text a) (before a) (offset a) (rows1 j) (lines1 j) (j .marks-at .result .next) (one j) (rows2 i) (lines2 i) (i .outputs-at .result .next) (two i)
+          (rows3 k) (lines3 k) (k .factors-into .result .next) (three k) (sym (c .before .enum-told4 .given .1) ∙ l .line-is4 .ensures)) _ _ _,
       no-offset (c .no-part4 .result) (lines3 k + 1) (c .no-part4 .ensures .0) (c .no-part4 .ensures .1) (λ z. omega arith) (offset a) _ (lines (drop (offset a) (text a))),
     )
 
@@ -255,23 +234,14 @@ add-parameter-at c = let h = small3 (third c) in omega (arith, start3 (third c) 
 parameter-at-requires : tie.Need-parameter-at-requires
 parameter-at-requires c κs = let h = small3 (third c) in omega arith
 
-same-length-13 : tie.Need-same-length-13
-same-length-13 c = let k = first (second (third (c .before .before .before))) in kept-room (start1 k .before .before .args .shadow .now) (map (cell 1) (rows1 k)) (k .marks-at .ensures .1 .0)
+same-length-7 : tie.Need-same-length-7
+same-length-7 c = let k = first (second (third (c .before .before .before))) in kept-room (start1 k .before .before .args .shadow .now) (map (cell 1) (rows1 k)) (k .marks-at .ensures .1 .0)
 
-same-length-14 : tie.Need-same-length-14
-same-length-14 c = let k = second (third (c .before .before .before)) in kept-room (start2 k .before .before .args .lmp .now) (map (cell 1) (rows2 k)) (k .outputs-at .ensures .1 .0)
+same-length-8 : tie.Need-same-length-8
+same-length-8 c = let k = second (third (c .before .before .before)) in kept-room (start2 k .before .before .args .outputs .now) (flatMap (λ row. cell 1 row ∷ cell 2 row ∷ cell 3 row ∷ cell 4 row ∷ []) (rows2 k)) (k .outputs-at .ensures .1 .0)
 
-same-length-15 : tie.Need-same-length-15
-same-length-15 c = let k = second (third (c .before .before .before)) in kept-room (start2 k .before .before .args .dispatch .now) (map (cell 2) (rows2 k)) (k .outputs-at .ensures .1 .1 .0)
-
-same-length-16 : tie.Need-same-length-16
-same-length-16 c = let k = second (third (c .before .before .before)) in kept-room (start2 k .before .before .args .available .now) (map (cell 3) (rows2 k)) (k .outputs-at .ensures .1 .1 .1 .0)
-
-same-length-17 : tie.Need-same-length-17
-same-length-17 c = let k = second (third (c .before .before .before)) in kept-room (start2 k .before .before .args .floor .now) (map (cell 4) (rows2 k)) (k .outputs-at .ensures .1 .1 .1 .1 .0)
-
-same-length-18 : tie.Need-same-length-18
-same-length-18 c = ap length ((third (c .before .before .before)) .factors-into .ensures .1 .0) ∙ length-stored _ _
+same-length-9 : tie.Need-same-length-9
+same-length-9 c = ap length ((third (c .before .before .before)) .factors-into .ensures .1 .0) ∙ length-stored _ _
 
 returns-5 : tie.Need-returns-5
 returns-5 c =
@@ -282,32 +252,22 @@ returns-5 c =
     let j = first i in
     let a = start3 k in
     let r = p .parameter-at .result in (
-      refused (text a) (c .no-part5 .result) (r .fault) (c .no-part5 .ensures .0) (c .before .if1 .taken) _ _ (sym (whole-part a) ∙ no-parameter (text a) (before a) (offset a) (rows1 j) (lines1 j) (j .marks-at .result .next) (one j) (rows2 i) (lines2 i) (i .outputs-at .result .next) (two i)
+      refused (text a) (c .no-part5 .result) (r .fault) (c .no-part5 .ensures .0) (c .before .if1 .taken) _ (sym (whole-part a) ∙ no-parameter (text a) (before a) (offset a) (rows1 j) (lines1 j) (j .marks-at .result .next) (one j) (rows2 i) (lines2 i) (i .outputs-at .result .next) (two i)
           (rows3 k) (lines3 k) (k .factors-into .result .next) (three k) (q .at4 .given .0 .0) (sym (q .at4 .given .1) ∙ q .before .before .line-is4 .ensures)
-          (r .fault) (r .value) (r .line) (r .next) (p .parameter-at .ensures .0) (c .before .if1 .taken)) _ _ _ _ _ _,
+          (r .fault) (r .value) (r .line) (r .next) (p .parameter-at .ensures .0) (c .before .if1 .taken)) _ _ _,
       no-offset (c .no-part5 .result) (r .fault) (c .no-part5 .ensures .0) (c .no-part5 .ensures .1) (c .before .if1 .taken) (offset a) _ (lines (drop (offset a) (text a))),
     )
 
-same-length-19 : tie.Need-same-length-19
-same-length-19 c = let k = first (second (third (c .before .before .before))) in kept-room (start1 k .before .before .args .shadow .now) (map (cell 1) (rows1 k)) (k .marks-at .ensures .1 .0)
+same-length-10 : tie.Need-same-length-10
+same-length-10 c = let k = first (second (third (c .before .before .before))) in kept-room (start1 k .before .before .args .shadow .now) (map (cell 1) (rows1 k)) (k .marks-at .ensures .1 .0)
 
-same-length-20 : tie.Need-same-length-20
-same-length-20 c = let k = second (third (c .before .before .before)) in kept-room (start2 k .before .before .args .lmp .now) (map (cell 1) (rows2 k)) (k .outputs-at .ensures .1 .0)
+same-length-11 : tie.Need-same-length-11
+same-length-11 c = let k = second (third (c .before .before .before)) in kept-room (start2 k .before .before .args .outputs .now) (flatMap (λ row. cell 1 row ∷ cell 2 row ∷ cell 3 row ∷ cell 4 row ∷ []) (rows2 k)) (k .outputs-at .ensures .1 .0)
 
-same-length-21 : tie.Need-same-length-21
-same-length-21 c = let k = second (third (c .before .before .before)) in kept-room (start2 k .before .before .args .dispatch .now) (map (cell 2) (rows2 k)) (k .outputs-at .ensures .1 .1 .0)
-
-same-length-22 : tie.Need-same-length-22
-same-length-22 c = let k = second (third (c .before .before .before)) in kept-room (start2 k .before .before .args .available .now) (map (cell 3) (rows2 k)) (k .outputs-at .ensures .1 .1 .1 .0)
-
-same-length-23 : tie.Need-same-length-23
-same-length-23 c = let k = second (third (c .before .before .before)) in kept-room (start2 k .before .before .args .floor .now) (map (cell 4) (rows2 k)) (k .outputs-at .ensures .1 .1 .1 .1 .0)
-
-same-length-24 : tie.Need-same-length-24
-same-length-24 c = ap length ((third (c .before .before .before)) .factors-into .ensures .1 .0) ∙ length-stored _ _
+same-length-12 : tie.Need-same-length-12
+same-length-12 c = ap length ((third (c .before .before .before)) .factors-into .ensures .1 .0) ∙ length-stored _ _
 
 returns-6 : tie.Need-returns-6
-unfolding intervalOf kept
 returns-6 c =
     let p = c .before .before in
     let q = p .before .before in
@@ -317,18 +277,22 @@ returns-6 c =
     let a = start3 k in
     let r = p .parameter-at .result in
     let g = a .before .before .pre in
+    let J = length (a .before .before .args .outputs .now) in
     let K = length (a .before .before .args .factors .now) in
-    let v = by-fields (j .marks-at .ensures .0) (j .marks-at .ensures .1 .0 ∙ ap (λ (l : List ℤ). sets l 0 (map (cell 1) (rows1 j))) (g .0)) (i .outputs-at .ensures .0)
-    (i .outputs-at .ensures .1 .0 ∙ ap (λ (l : List ℤ). sets l 0 (map (cell 1) (rows2 i))) (g .1 .0 .0))
-    (i .outputs-at .ensures .1 .1 .0 ∙ ap (λ (l : List ℤ). sets l 0 (map (cell 2) (rows2 i))) (g .1 .0 .1 .0))
-    (i .outputs-at .ensures .1 .1 .1 .0 ∙ ap (λ (l : List ℤ). sets l 0 (map (cell 3) (rows2 i))) (g .1 .0 .1 .1 .0))
-    (i .outputs-at .ensures .1 .1 .1 .1 .0 ∙ ap (λ (l : List ℤ). sets l 0 (map (cell 4) (rows2 i))) (g .1 .0 .1 .1 .1))
-    (k .factors-into .ensures .1 .0 ∙ ap (λ (l : List ℤ). withFactors l (factorRows (i .outputs-at .result .count) (j .marks-at .result .count) (lines (drop (past3 k) (text a))))) (g .1 .1 .0) ∙ ap (withFactors (replicate K (pos 0))) (rows-are k) ∙ stored-seen K (rows3 k) (g .1 .1 .1))
+    let v = put-seen (rows1 j) (rows2 i) (rows3 k) J K _ _ _ _ _ _ (r .value) (j .marks-at .ensures .0) (j .marks-at .ensures .1 .0 ∙ ap (λ (l : List ℤ). sets l 0 (map (cell 1) (rows1 j))) (g .0)) (i .outputs-at .ensures .0)
+    (i .outputs-at .ensures .1 .0 ∙ ap (λ (l : List ℤ). sets l 0 (flatMap (λ row. cell 1 row ∷ cell 2 row ∷ cell 3 row ∷ cell 4 row ∷ []) (rows2 i))) (g .1 .0))
+    (k .factors-into .ensures .1 .0 ∙ ap (λ (l : List ℤ). withFactors l (factorRows (i .outputs-at .result .count) (j .marks-at .result .count) (lines (drop (past3 k) (text a))))) (g .1 .1 .0) ∙ ap (withFactors (replicate K (pos 0))) (rows-are k)) (g .1 .1 .1)
     (came (r .value) (c .struct-told .given .1 .0 .1)) in (
-      ap (λ (x : Interval). found x (r .line) (lines (drop (r .next) (text a)))) v
-          ∙ sym (ap (seenOf K) (sym (whole-part a) ∙ whole (text a) (before a) (offset a) (rows1 j) (lines1 j) (j .marks-at .result .next) (one j) (rows2 i) (lines2 i) (i .outputs-at .result .next) (two i)
-          (rows3 k) (lines3 k) (k .factors-into .result .next) (three k) (q .at4 .given .0 .0) (sym (q .at4 .given .1) ∙ q .before .before .line-is4 .ensures)
-          (r .fault) (r .value) (r .line) (r .next) (p .parameter-at .ensures .0) (c .before .if1 .left))),
+      record {
+        fails = λ h. absurd (h refl);
+        whole = λ z. record {
+          v = intervalOf (rows1 j) (rows2 i) (rows3 k) (r .value);
+          is = sym (whole-part a) ∙ whole (text a) (before a) (offset a) (rows1 j) (lines1 j) (j .marks-at .result .next) (one j) (rows2 i) (lines2 i) (i .outputs-at .result .next) (two i)
+              (rows3 k) (lines3 k) (k .factors-into .result .next) (three k) (q .at4 .given .0 .0) (sym (q .at4 .given .1) ∙ q .before .before .line-is4 .ensures)
+              (r .fault) (r .value) (r .line) (r .next) (p .parameter-at .ensures .0) (c .before .if1 .left);
+          same = v;
+        };
+      },
       used4 p (c .before .if1 .left) .offset ∙ ap (λ (n : ℕ). offset a + bytesOf (r .line - n) (lines (drop (offset a) (text a)))) (a .at-most .ensures),
     )
 
@@ -338,8 +302,8 @@ part-at-spec =
     (λ c κs. search needs) returns (λ c κs. search needs) (λ c. search needs) add-line-2 (λ c. search needs) (λ c κs. search needs)
     (λ c. search needs) (λ c. search needs) add-no-part-2 (λ c κs. search needs) same-length returns-2 (λ c κs. search needs) add-line-3 add-line-4
     (λ c. search needs) (λ c κs. search needs) (λ c. search needs) (λ c. search needs) add-no-part-3 (λ c κs. search needs) same-length-2
-    same-length-3 same-length-4 same-length-5 same-length-6 returns-3 (λ c κs. search needs) add-line-5 add-line-6 (λ c. search needs)
-    (λ c κs. search needs) (λ c. search needs) (λ c. search needs) add-no-part-4 (λ c κs. search needs) same-length-7 same-length-8 same-length-9
-    same-length-10 same-length-11 same-length-12 returns-4 add-parameter-at parameter-at-requires (λ c κs. search needs) same-length-13 same-length-14
-    same-length-15 same-length-16 same-length-17 same-length-18 returns-5 same-length-19 same-length-20 same-length-21 same-length-22 same-length-23
-    same-length-24 returns-6)
+    same-length-3 returns-3 (λ c κs. search needs) add-line-5 add-line-6 (λ c. search needs)
+    (λ c κs. search needs) (λ c. search needs) (λ c. search needs) add-no-part-4 (λ c κs. search needs) same-length-4 same-length-5
+    same-length-6 returns-4 add-parameter-at parameter-at-requires (λ c κs. search needs) same-length-7 same-length-8
+    same-length-9 returns-5 same-length-10 same-length-11
+    same-length-12 returns-6)

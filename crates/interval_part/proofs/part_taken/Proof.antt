@@ -12,14 +12,14 @@ use Rattle.rules_state.specs.States.{marketIn}
 use Rattle.interval_part.proofs.part_taken.Statement.{statement}
 use Rattle.interval_part.proofs.part_taken.Tie as tie
 
--- the factors of k resources have 32 cells for each
-few-cells : (l : List ℤ) (n k : ℕ) → n ≡ natOf (cellAt l marketFrom) → n ≤ k → min (marketIn l .resources) 64 * 32 ≤ k * 32
+-- k resources have 4 cells of outputs and 32 of factors each
+few-cells : (l : List ℤ) (n k : ℕ) → n ≡ natOf (cellAt l marketFrom) → n ≤ k → (min (marketIn l .resources) 64 * 4 ≤ k * 4) × (min (marketIn l .resources) 64 * 32 ≤ k * 32)
 unfolding marketIn
-few-cells l n k e h = omega arith
+few-cells l n k e h = (omega arith, omega arith)
 
 -- those of any number, all
-all-cells : (n : ℕ) → min n 64 * 32 ≤ 2048
-all-cells n = omega arith
+all-cells : (n : ℕ) → (min n 64 * 4 ≤ 256) × (min n 64 * 32 ≤ 2048)
+all-cells n = (omega arith, omega arith)
 
 -- the hour's cells
 abbrev hour : tie.After-whole-at → List ℤ
@@ -27,27 +27,31 @@ hour w = w .before .before .before .args .state .now
 
 part-into-requires : tie.Need-part-into-requires
 part-into-requires c κs =
-    let t = c .before .before .before in
+    let t = c .before .before .before .before in
     let w = t .before in
-    (refl, (few-cells (hour w) (w .whole-at .result) 1 (w .whole-at .ensures) (t .if1 .taken), omega arith))
+    let r = few-cells (hour w) (w .whole-at .result) 1 (w .whole-at .ensures) (t .if1 .taken) in
+    ((refl, refl), (r .0, (r .1, omega arith)))
 
 part-into-requires-2 : tie.Need-part-into-requires-2
 part-into-requires-2 c κs =
-    let t = c .before .before .before in
+    let t = c .before .before .before .before in
     let w = t .before .before in
-    (refl, (few-cells (hour w) (w .whole-at .result) 8 (w .whole-at .ensures) (t .if2 .taken), omega arith))
+    let r = few-cells (hour w) (w .whole-at .result) 8 (w .whole-at .ensures) (t .if2 .taken) in
+    ((refl, refl), (r .0, (r .1, omega arith)))
 
 part-into-requires-3 : tie.Need-part-into-requires-3
 part-into-requires-3 c κs =
-    let t = c .before .before .before in
+    let t = c .before .before .before .before in
     let w = t .before .before .before in
-    (refl, (few-cells (hour w) (w .whole-at .result) 32 (w .whole-at .ensures) (t .if3 .taken), omega arith))
+    let r = few-cells (hour w) (w .whole-at .result) 32 (w .whole-at .ensures) (t .if3 .taken) in
+    ((refl, refl), (r .0, (r .1, omega arith)))
 
 part-into-requires-4 : tie.Need-part-into-requires-4
-part-into-requires-4 c κs = (refl, (all-cells (marketIn (hour (c .before .before .before .before .before .before)) .resources), omega arith))
+part-into-requires-4 c κs = let r = all-cells (marketIn (hour (c .before .before .before .before .before .before .before)) .resources) in ((refl, refl), (r .0, (r .1, omega arith)))
 
 pub part-taken-spec : {M : Type 1} → statement M
 part-taken-spec =
-    tie.close (tie.spec (λ c κs. search needs) (λ c. search needs) part-into-requires (λ c. search needs) (λ c. search needs) (λ c. search needs)
-    part-into-requires-2 (λ c. search needs) (λ c. search needs) (λ c. search needs) part-into-requires-3 (λ c. search needs) (λ c. search needs)
-    (λ c. search needs) part-into-requires-4 (λ c. search needs) (λ c. search needs))
+    tie.close (tie.spec (λ c κs. search needs) (λ c. search needs) (λ c. search needs) part-into-requires (λ c. search needs) (λ c. search needs)
+    (λ c. search needs) (λ c. search needs) part-into-requires-2 (λ c. search needs) (λ c. search needs) (λ c. search needs) (λ c. search needs)
+    part-into-requires-3 (λ c. search needs) (λ c. search needs) (λ c. search needs) (λ c. search needs) part-into-requires-4 (λ c. search needs)
+    (λ c. search needs))

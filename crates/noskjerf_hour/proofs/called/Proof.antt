@@ -1,6 +1,6 @@
 -- `noskjerf_hour::called` meets its contract. Assumes nothing.
 use Prim.Native.Nat.{ℕ, _≤_, _<_}
-use mathlib.Core.Path.{_≡_, sym, ap, subst, _∙_}
+use mathlib.Core.Path.{_≡_, sym, ap, _∙_}
 use mathlib.Core.List.{List}
 use native.Mathlib.Omega.{arith}
 use borrow.Author.Needs.{needs}
@@ -11,32 +11,26 @@ use lib.IntN.{ℤ, pos, negsuc}
 use lib.ListN.{length}
 use Rattle.rules_number.proofs.Kit.{came}
 use Rattle.rules_curve.specs.Refusals.{outcomeNumber}
-use Rattle.rules_interval.specs.Intervals.{intervalOf}
 use Rattle.rules_interval.specs.declared.Interval.{Interval}
 use Rattle.rules_state.specs.States.{marketIn}
 use Rattle.rules_state.specs.Intervals.{intervalIn}
 use Rattle.rules_state.specs.Verdicts.{judgedCells}
 use Rattle.rules_state.proofs.TakeLaws.{accepted-length, not-written, written-zero}
+use Rattle.cutting.proofs.AlikeLaws.{over-alike}
 use Rattle.verdict_cells.proofs.CallLaws.{Answered, few, few-cells, few-verdicts, refused, written}
 use Rattle.hour_cells.specs.Calls.{writtenBy}
-use Rattle.hour_cells.proofs.CallLaws.{Called}
+use Rattle.hour_cells.proofs.CallLaws.{Called, alike-called}
 use Rattle.noskjerf_hour.specs.Calls.{answerBy, stateBy, verdictsBy}
 use Rattle.noskjerf_hour.proofs.CallLaws as laws
 use Rattle.noskjerf_hour.proofs.called.Statement.{statement}
 use Rattle.noskjerf_hour.proofs.called.Tie as tie
 
--- the interval that is asked for, and that it is read
+-- the interval that is asked for
 abbrev asked : tie.Start → Interval
 asked c = intervalIn (c .args .constraints) (c .args .shadow .now) (c .args .resources) (c .args .outputs .now) (c .args .factors .now) (c .args .parameter)
 
 held : (s : tie.Start) → toZ w64 (ofZ w64 (s .args .parameter)) ≡ s .args .parameter
 held s = came (s .args .parameter) (s .fits .parameter .sfits)
-
-read : (c : tie.After-interval-in) → c .interval-in .result ≡ asked (c .before .before .before)
-read c =
-    let s = c .before .before .before in
-    let a = s .args in
-    c .interval-in .ensures ∙ ap (intervalIn (a .constraints) (a .shadow .now) (a .resources) (a .outputs .now) (a .factors .now)) (held s)
 
 -- its number, and the two slices where it is accepted
 abbrev number : tie.Start → ℕ
@@ -54,38 +48,30 @@ done : (o : tie.Start) (z : ℤ) (s t : List ℤ) → Answered (o .args .state .
     × ((s ≡ stateBy (o .args .pass) (o .args .state .now) (o .args .verdicts .now) (asked o)) × (t ≡ verdictsBy (o .args .pass) (o .args .state .now) (o .args .verdicts .now) (asked o)))
 done o z s t h = laws.answered (o .args .pass) (o .args .state .now) (o .args .verdicts .now) (asked o) z s t h
 
--- where the call is made: the tests before it, the values that it is made with, and the verdicts' cells before it and after it
+-- where the call is made: the tests before it, and the verdicts' cells before it and after it
 abbrev blanks : tie.After-call-into → tie.After-none-found
-blanks t = t .before .before .before .before .before .before .before .before .before .before .before
+blanks t = t .before .before .before
 
 abbrev tests : tie.After-call-into → tie.Else2
-tests t = blanks t .before .before
+tests t = blanks t .before
 
 abbrev start : tie.After-call-into → tie.Start
 start t = tests t .before .before
-
-abbrev values : tie.After-call-into → Interval
-values t =
-    let a = start t .args in
-    let v = blanks t .before .interval-in .result in
-    intervalOf (a .constraints) (v .shadow) (a .resources) (v .lmp) (v .dispatch) (v .available) (v .floor) (v .factors) (a .parameter)
 
 abbrev blank : tie.After-call-into → List ℤ
 blank t = blanks t .none-found .result
 
 abbrev found : tie.After-call-into → List ℤ
-found t = t .call-into .last .1 .1 .1 .1 .1 .1 .1 .1 .1 .1 .1 .0
+found t = t .call-into .last .1 .1 .1 .1 .1 .1 .1 .1 .0
 
-same : (t : tie.After-call-into) → values t ≡ asked (start t)
-unfolding intervalIn
-same t =
-    let a = start t .args in
-    ap (λ (v : Interval). intervalOf (a .constraints) (v .shadow) (a .resources) (v .lmp) (v .dispatch) (v .available) (v .floor) (v .factors) (a .parameter)) (read (blanks t .before))
-
+-- the interval as it is lent is alike
 made : (t : tie.After-call-into) → let o = start t in Called (o .args .pass) (o .args .state .now) (blank t) (asked o) (outcomeNumber (t .call-into .result)) (t .call-into .last .0) (found t)
 made t =
     let o = start t in
-    subst (λ (v : Interval). Called (o .args .pass) (o .args .state .now) (blank t) v (outcomeNumber (t .call-into .result)) (t .call-into .last .0) (found t)) (same t) (rw (held o) at (t .call-into .ensures))
+    let a = o .args in
+    alike-called (a .pass) (a .state .now) (blank t) _ (asked o)
+    (over-alike (marketIn (a .state .now) .resources) (a .constraints) (a .shadow .now) (a .resources) (a .outputs .now) (a .factors .now) (a .parameter)) (outcomeNumber (t .call-into .result)) (t .call-into .last .0) (found t)
+    (rw (held o) at (t .call-into .ensures))
 
 blank-room : (c : tie.After-none-found) → length (c .none-found .result) ≡ 640
 blank-room c = search needs
@@ -138,6 +124,6 @@ returns-4 c =
 
 pub called-spec : {M : Type 1} → statement M
 called-spec =
-    tie.close (tie.spec returns returns-2 (λ c κs. search needs) (λ c κs. search needs) (λ c κs. search needs) (λ c. search needs)
+    tie.close (tie.spec returns returns-2 (λ c κs. search needs) (λ c κs. search needs) (λ c. search needs)
     (λ c κs. search needs) cast-result (λ c. search needs) returns-3 (λ c. search needs) slice-aggregate-put-all (λ c κs. search needs)
     (λ c. search needs) (λ c. search needs) returns-4)

@@ -17,44 +17,48 @@ use Rattle.rules_state.specs.Intervals.{intervalIn}
 use Rattle.rules_state.specs.States.{marketIn}
 use Rattle.rules_state.specs.Takes.{ifAccepted}
 use Rattle.rules_state.proofs.TakeLaws.{not-written, written-zero}
+use Rattle.interval.specs.Over.{intervalOver}
+use Rattle.cutting.proofs.AlikeLaws.{Alike, over-alike, refusal-same, why-causes}
 use Rattle.noskjerf_why.proofs.WhyLaws.{few, few-cells, few-causes, refused, written}
 use Rattle.noskjerf_why.proofs.noskjerf_why.Statement.{statement}
 use Rattle.noskjerf_why.proofs.noskjerf_why.Tie as tie
 
--- the interval that is asked for, and that it is read
+-- the interval that is asked for, as it is lent and as it is read
+abbrev lent : tie.Start → Interval
+lent c = intervalOver (c .args .constraints) (c .args .shadow .now) (c .args .resources) (c .args .outputs .now) (c .args .factors .now) (c .args .parameter)
+
 abbrev asked : tie.Start → Interval
 asked c = intervalIn (c .args .constraints) (c .args .shadow .now) (c .args .resources) (c .args .outputs .now) (c .args .factors .now) (c .args .parameter)
 
-read : (c : tie.After-interval-in) → c .interval-in .result ≡ asked (c .before .before .before)
-read c =
-    let s = c .before .before .before in
+alike : (s : tie.Start) → Alike (marketIn (s .args .state .now) .resources) (lent s) (asked s)
+alike s =
     let a = s .args in
-    c .interval-in .ensures ∙ ap (intervalIn (a .constraints) (a .shadow .now) (a .resources) (a .outputs .now) (a .factors .now)) (came (a .parameter) (s .fits .parameter .sfits))
+    over-alike (marketIn (a .state .now) .resources) (a .constraints) (a .shadow .now) (a .resources) (a .outputs .now) (a .factors .now) (a .parameter)
 
--- what was found: the interval as it was read, and the call's beginning
-abbrev found : tie.After-causes-into → tie.After-interval-in
-found k = k .before .before .before .before .before .before .before .before .before .before .before
+-- the tests before the call, and its beginning
+abbrev tests : tie.After-causes-into → tie.Else2
+tests k = k .before .before
 
 abbrev start : tie.After-causes-into → tie.Start
-start k = found k .before .before .before
+start k = tests k .before .before
 
--- its parameter, as it is held
-held : (k : tie.After-causes-into) → rd (found k .interval-in .result .parameter) ≡ found k .interval-in .result .parameter
-held k = came (found k .interval-in .result .parameter) (k .before .before .before .before .before .before .before .before .before .before .struct-told .given .1 .1 .1 .1 .1 .1 .1 .1 .0 .1)
+held : (s : tie.Start) → rd (s .args .parameter) ≡ s .args .parameter
+held s = came (s .args .parameter) (s .fits .parameter .sfits)
 
 -- its number, and the causes
 numbered : (k : tie.After-causes-into) → intervalRefusal (marketIn (start k .args .state .now) .resources) (asked (start k)) ≡ outcomeNumber (k .causes-into .result)
-numbered k = ap (λ (v : Interval). intervalRefusal (marketIn (start k .args .state .now) .resources) v) (sym (read (found k))) ∙ sym (rw (held k) at (k .causes-into .ensures .0))
+numbered k =
+    let s = start k in
+    sym (rw (held s) at (k .causes-into .ensures .0) ∙ refusal-same (marketIn (s .args .state .now) .resources) (lent s) (asked s) (alike s))
 
 abbrev after : tie.After-causes-into → List ℤ
-after k = k .causes-into .last .1 .1 .1 .1 .1 .1 .1 .1 .1 .1 .0
+after k = k .causes-into .last .1 .1 .1 .1 .1 .1 .1 .0
 
 caused : (k : tie.After-causes-into)
     → after k ≡ ifAccepted (intervalRefusal (marketIn (start k .args .state .now) .resources) (asked (start k))) (sets (start k .args .causes .now) 0 (causesCells (marketIn (start k .args .state .now)) (asked (start k)))) (start k .args .causes .now)
 caused k =
-    let a = start k .args in
-    rw (held k) at (k .causes-into .ensures .1)
-    ∙ ap (λ (v : Interval). ifAccepted (intervalRefusal (marketIn (a .state .now) .resources) v) (sets (a .causes .now) 0 (causesCells (marketIn (a .state .now)) v)) (a .causes .now)) (read (found k))
+    let s = start k in
+    rw (held s) at (k .causes-into .ensures .1) ∙ why-causes (lent s) (asked s) (s .args .state .now) (alike s) (s .args .causes .now)
 
 small : (c : tie.After-refusal-number) → (0 < c .refusal-number .result) × (c .refusal-number .result ≤ 99)
 small c = few (c .before .before .outcome .given .0 .0) (c .refusal-number .result) (c .refusal-number .ensures)
@@ -72,7 +76,7 @@ returns-3 : tie.Need-returns-3
 returns-3 c =
     let k = c .before .before .before .before .before in
     let o = start k in
-    let e = found k .before in
+    let e = tests k in
     let n = numbered k ∙ ap outcomeNumber (c .before .before .outcome .given .1) ∙ sym (c .refusal-number .ensures) in
     let some : 0 < intervalRefusal (marketIn (o .args .state .now) .resources) (asked o) = rw n (small c .0) in
     let w = refused (o .args .state .now) (o .args .causes .now) (asked o) (e .before .if1 .left) (e .if2 .left) (c .refusal-number .result) (small c .0) n in
@@ -82,11 +86,11 @@ returns-4 : tie.Need-returns-4
 returns-4 c =
     let k = c .before .before .before in
     let o = start k in
-    let e = found k .before in
+    let e = tests k in
     let n = numbered k ∙ ap outcomeNumber (c .enum-told .given .1) in
     written (o .args .state .now) (o .args .causes .now) (asked o) (e .before .if1 .left) (e .if2 .left) n (after k) (caused k ∙ written-zero _ _ (o .args .causes .now) n)
 
 pub noskjerf-why-spec : {M : Type 1} → statement M
 noskjerf-why-spec =
-    tie.close (tie.spec returns returns-2 (λ c κs. search needs) (λ c κs. search needs) (λ c. search needs) (λ c κs. search needs) cast-result
+    tie.close (tie.spec returns returns-2 (λ c κs. search needs) (λ c. search needs) (λ c κs. search needs) cast-result
     (λ c. search needs) returns-3 (λ c. search needs) (λ c. search needs) returns-4)

@@ -1,10 +1,7 @@
 -- `opening_cells::pack_in` meets its contract. Assumes nothing.
 use Prim.Native.Nat.{ℕ, _≤_, _<_}
-use mathlib.Core.List.{List}
 use mathlib.Core.Path.{_≡_, refl, sym, ap, _∙_}
-use lib.IntN.{ℤ}
 use borrow.Author.Needs.{needs}
-use Rattle.rules_number.specs.Over.{padded}
 use Rattle.rules_number.proofs.Kit.{came}
 use Rattle.rules_curve.specs.Refusals.{outcomeNumber}
 use Rattle.rules_curve.specs.Curves.{mostSteps, lowestDefault, highestDefault, curveOf, blankCurve, defaultRefusal}
@@ -14,9 +11,10 @@ use Rattle.rules_curve.specs.declared.RawCurve.{RawCurve}
 use Rattle.rules_curve.proofs.RefusalLaws.{refused-number}
 use Rattle.rules_library.specs.Slices.{rawBid}
 use Rattle.rules_state.specs.States.{curveCells}
-use Rattle.cost.specs.Cells.{inCells}
-use Rattle.cost.specs.declared.DefaultCells.{DefaultCells}
+use Rattle.cost.specs.Cells.{endsBy}
+use Rattle.cost.specs.declared.DefaultEnds.{DefaultEnds}
 use Rattle.opening_cells.proofs.BlockLaws.{curve-few, refused-blank}
+use Rattle.opening_cells.proofs.OpenLaws.{skipped}
 use Rattle.opening_cells.proofs.pack_in.Statement.{statement}
 use Rattle.opening_cells.proofs.pack_in.Tie as tie
 
@@ -33,13 +31,13 @@ few : (c : tie.After-enum-told) → c .before .before .before .args .n ≤ mostS
 few c = curve-few mostSteps lowestDefault highestDefault (raw (c .before .before .before)) (good c)
 
 returns : tie.Need-returns
-unfolding blankCurve curveCells padded
+unfolding blankCurve
 returns c =
     let o = c .before .before in
     let x = raw (o .before) in
     let k = c .enum-told2 .given in
     let h : 0 < defaultRefusal x = rw (← (number-is o), k .1) (refused-number (k .0 .0)) in
-    (number-is o, ap (λ (y : Curve). inCells (o .curve-outcome .result) y) (sym (refused-blank (defaultRefusal x) (curveOf x) h)))
+    (number-is o, (ap (λ (y : Curve). endsBy (o .curve-outcome .result) y) (sym (refused-blank (defaultRefusal x) (curveOf x) h)), sym (skipped (defaultRefusal x) (curveCells (curveOf x)) (o .before .args .cells .now) h)))
 
 curve-of-requires : tie.Need-curve-of-requires
 curve-of-requires c κs = (few c, search needs)
@@ -47,9 +45,8 @@ curve-of-requires c κs = (few c, search needs)
 end-at-requires : tie.Need-end-at-requires
 end-at-requires c κs = (few (c .before .before), search needs)
 
-by-parts : {s s' e e' : ℕ} {l l' : List ℤ} → s ≡ s' → e ≡ e' → l ≡ l'
-    → _≡_ {A = DefaultCells} (record { outcome = Accepted; start = s; end = e; cells = l }) (record { outcome = Accepted; start = s'; end = e'; cells = l' })
-by-parts a b c = cc
+by-parts : {s s' e e' : ℕ} → s ≡ s' → e ≡ e' → _≡_ {A = DefaultEnds} (record { outcome = Accepted; start = s; end = e }) (record { outcome = Accepted; start = s'; end = e' })
+by-parts a b = cc
 
 returns-2 : tie.Need-returns-2
 unfolding curveOf
@@ -59,7 +56,7 @@ returns-2 c =
     let t = k .before in
     let s = t .before .before .before in
     let f = came (s .args .start) (s .fits .start .sfits) in
-    rw (good t) (refl, by-parts (rw f at (w .whole .ensures)) (rw f at (c .end-at .ensures)) (rw f at (k .curve-of .ensures)))
+    rw (good t) (refl, (by-parts (rw f at (w .whole .ensures)) (rw f at (c .end-at .ensures)), rw f at (k .curve-of .ensures)))
 
 pub pack-in-spec : {M : Type 1} → statement M
 pack-in-spec =

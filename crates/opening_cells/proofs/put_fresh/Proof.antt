@@ -17,7 +17,7 @@ returns c =
     let a = z .before .before .args in
     let n : a .resources ≤ mostResources = omega arith in
     let k : a .portfolios ≤ mostPortfolios = omega arith in
-    fresh-made (pos 0) (a .portfolios) (a .sellers .now) (a .resources) (a .blocks .now) n k (a .state .now) _ _ _ _ (z .clear .ensures) (w .put-whole .ensures) (p .put-padded .ensures) (q .put-padded2 .ensures)
+    fresh-made (pos 0) (a .portfolios) (a .sellers .now) (a .resources) (a .blocks .now) n k (a .state .now) _ _ _ _ (z .clear .ensures) (w .put-whole .ensures) (p .put-each .ensures) (q .put-each2 .ensures)
 
 pub put-fresh-spec : {M : Type 1} → statement M
 put-fresh-spec =

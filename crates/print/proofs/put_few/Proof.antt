@@ -13,25 +13,19 @@ use Rattle.print.proofs.put_few.Tie as tie
 two : (p : tie.After-put-two) → let n = p .before .before .before .before .before .args .n in digits 19 n ≡ (48 + n / 10) ∷ (48 + n % 10) ∷ []
 two p = two-digits (p .before .before .before .before .before .args .n) (p .before .before .before .if1 .left) (p .before .before .if2 .taken)
 
-three : (d : tie.After-digit2) → let n = d .before .before .before .before .before .args .n in digits 19 n ≡ (48 + n / 100) ∷ (48 + n / 10 % 10) ∷ (48 + n % 10) ∷ []
+three : (d : tie.After-digit) → let n = d .before .before .before .before .before .args .n in digits 19 n ≡ (48 + n / 100) ∷ (48 + n / 10 % 10) ∷ (48 + n % 10) ∷ []
 three d = three-digits (d .before .before .before .before .before .args .n) (d .before .before .if2 .left) (d .before .if3 .taken)
 
-slice-write-out-2 : tie.Need-slice-write-out-2
-slice-write-out-2 c =
-    let a = c .before .before .before .args in
-    omega (arith, length-set (a .out .now) (a .at) (c .digit .result), ap length (one-digit (a .n) (c .before .if1 .taken)))
-
-returns : tie.Need-returns
-returns c =
-    let a = c .before .before .before .args in
-    ends (a .out .now) (set (a .out .now) (a .at) (c .digit .result)) (a .at) (a .at + 1) (a .at + 2) (a .n) (a .end) ((48 + a .n) ∷ []) (one-digit (a .n) (c .before .if1 .taken))
-    (ap (set (a .out .now) (a .at)) (c .digit .ensures)) refl (omega arith)
+put-digit-requires : tie.Need-put-digit-requires
+put-digit-requires c κs =
+    let s = c .before .before .before in
+    (c .before .if1 .taken, omega (arith, s .pre .1, ap length (one-digit (s .args .n) (c .before .if1 .taken))))
 
 put-two-requires : tie.Need-put-two-requires
 put-two-requires c κs = (c .before .if2 .taken, omega (arith, ap length (two-digits (c .before .before .before .before .args .n) (c .before .before .if1 .left) (c .before .if2 .taken))))
 
-slice-write-out-3 : tie.Need-slice-write-out-3
-slice-write-out-3 c = let p = c .before .before in omega (arith, p .put-two .kept .0, ap length (two p))
+slice-write-out : tie.Need-slice-write-out
+slice-write-out c = let p = c .before .before in omega (arith, p .put-two .kept .0, ap length (two p))
 
 returns-2 : tie.Need-returns-2
 returns-2 c =
@@ -42,21 +36,21 @@ returns-2 c =
 put-two-requires-2 : tie.Need-put-two-requires-2
 put-two-requires-2 c κs =
     let a = c .before .before .before .before .before .before .args in
-    (omega arith, omega (arith, length-set (a .out .now) (a .at) (c .before .digit2 .result), ap length (three (c .before))))
+    (omega arith, omega (arith, length-set (a .out .now) (a .at) (c .before .digit .result), ap length (three (c .before))))
 
-slice-write-out-5 : tie.Need-slice-write-out-5
-slice-write-out-5 c =
+slice-write-out-3 : tie.Need-slice-write-out-3
+slice-write-out-3 c =
     let p = c .before .before in
     let d = p .before .before in
     let a = d .before .before .before .before .before .args in
-    omega (arith, p .put-two2 .kept .0, length-set (a .out .now) (a .at) (d .digit2 .result), ap length (three d))
+    omega (arith, p .put-two2 .kept .0, length-set (a .out .now) (a .at) (d .digit .result), ap length (three d))
 
 same-length-3 : tie.Need-same-length-3
 same-length-3 c =
     let p = c .before .before in
     let d = p .before .before in
     let a = d .before .before .before .before .before .args in
-    length-set (p .put-two2 .last .0) (a .at + 3) (a .end) ∙ p .put-two2 .kept .0 ∙ length-set (a .out .now) (a .at) (d .digit2 .result)
+    length-set (p .put-two2 .last .0) (a .at + 3) (a .end) ∙ p .put-two2 .kept .0 ∙ length-set (a .out .now) (a .at) (d .digit .result)
 
 returns-3 : tie.Need-returns-3
 returns-3 c =
@@ -65,9 +59,9 @@ returns-3 c =
     let a = d .before .before .before .before .before .args in
     let n = a .n in
     let m = n - n / 100 * 100 in
-    let one = set (a .out .now) (a .at) (d .digit2 .result) in
+    let one = set (a .out .now) (a .at) (d .digit .result) in
     ends (a .out .now) (p .put-two2 .last .0) (a .at) (a .at + 3) (a .at + 4) n (a .end) ((48 + n / 100) ∷ (48 + n / 10 % 10) ∷ (48 + n % 10) ∷ []) (three d)
-    (p .put-two2 .ensures ∙ after (a .out .now) one (a .at) (a .at + 1) ((48 + n / 100) ∷ []) ((48 + m / 10) ∷ (48 + m % 10) ∷ []) ((48 + n / 100) ∷ (48 + n / 10 % 10) ∷ (48 + n % 10) ∷ []) (ap (set (a .out .now) (a .at)) (d .digit2 .ensures)) refl (low-two n m (n / 100) refl))
+    (p .put-two2 .ensures ∙ after (a .out .now) one (a .at) (a .at + 1) ((48 + n / 100) ∷ []) ((48 + m / 10) ∷ (48 + m % 10) ∷ []) ((48 + n / 100) ∷ (48 + n / 10 % 10) ∷ (48 + n % 10) ∷ []) (ap (set (a .out .now) (a .at)) (d .digit .ensures)) refl (low-two n m (n / 100) refl))
     refl (omega arith)
 
 put-tail-requires : tie.Need-put-tail-requires
@@ -82,7 +76,7 @@ returns-4 c =
 
 pub put-few-spec : {M : Type 1} → statement M
 put-few-spec =
-    tie.close (tie.spec (λ c κs. search needs) (λ c. search needs) (λ c. search needs) slice-write-out-2 (λ c. search needs) (λ c. search needs)
-    returns put-two-requires (λ c. search needs) slice-write-out-3 (λ c. search needs) (λ c. search needs) returns-2 (λ c κs. search needs)
-    (λ c. search needs) (λ c. search needs) (λ c. search needs) (λ c. search needs) put-two-requires-2 (λ c. search needs) slice-write-out-5
-    (λ c. search needs) same-length-3 returns-3 put-tail-requires (λ c. search needs) returns-4)
+    tie.close (tie.spec put-digit-requires (λ c. search needs) (λ c. search needs) put-two-requires (λ c. search needs) slice-write-out
+    (λ c. search needs) (λ c. search needs) returns-2 (λ c κs. search needs) (λ c. search needs) (λ c. search needs) (λ c. search needs)
+    (λ c. search needs) put-two-requires-2 (λ c. search needs) slice-write-out-3 (λ c. search needs) same-length-3 returns-3 put-tail-requires
+    (λ c. search needs) returns-4)

@@ -2,7 +2,7 @@
 use native.Mathlib.Omega.{arith}
 use Rattle.rules_number.proofs.Kit.{rd, came}
 use Rattle.rules_text.proofs.PrintLaws.{digits-few, decimal-few}
-use Rattle.print.proofs.DigitLaws.{four-values}
+use Rattle.print.proofs.DigitLaws.{head-placed, value-placed, four-placed}
 use borrow.Author.Needs.{needs}
 use Rattle.print.proofs.put_step.Statement.{statement}
 use Rattle.print.proofs.put_step.Tie as tie
@@ -28,8 +28,8 @@ returns c =
     let s = h .before .before .before in
     let a = s .args in
     rw (came (a .c) (s .fits .c .sfits), came (a .d) (s .fits .d .sfits)) at
-    (four-values (a .out .now) (h .put-head .last .0) (v .put-value .last .0) (w .put-value2 .last .0) (a .at) (h .put-head .result) (v .put-value .result) (w .put-value2 .result) (a .a) (a .b) (rd (a .c)) (rd (a .d)) (s .pre .0)
-    (h .put-head .ensures .0) (h .put-head .ensures .1) (v .put-value .ensures .0) (v .put-value .ensures .1) (w .put-value2 .ensures .0) (w .put-value2 .ensures .1))
+    (four-placed (a .a) (a .b) (rd (a .c)) (rd (a .d))
+    (value-placed (rd (a .d)) 10 (value-placed (rd (a .c)) 32 (head-placed (a .a) (a .b) (s .pre .0) (h .put-head .ensures .0) (h .put-head .ensures .1)) (v .put-value .ensures .0) (v .put-value .ensures .1)) (w .put-value2 .ensures .0) (w .put-value2 .ensures .1)))
 
 pub put-step-spec : {M : Type 1} → statement M
 put-step-spec =

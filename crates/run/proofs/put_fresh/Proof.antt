@@ -1,8 +1,7 @@
 -- `run::put_fresh` meets its contract. Assumes nothing.
 use borrow.Author.Needs.{needs}
-use Prim.Native.Nat.{_+_, _*_}
+use Prim.Native.Nat.{_*_}
 use mathlib.Core.List.{map}
-use native.Mathlib.Omega.{arith}
 use Rattle.rules_mitigation.specs.Mitigation.{mostMitigatedSteps}
 use Rattle.rules_text.specs.Printing.{groupText}
 use Rattle.rules_page.specs.Pages.{printable, curveRows}
@@ -18,7 +17,7 @@ returns c =
     let s = p .before .before .before .before .before in
     let a = s .args in
     fresh-to (a .out .now) (a .at) (groupText (printable (a .i)) (a .r) (curveRows (rowsIn (a .state .now)) (standingIn (a .state .now) .floors) (a .r))) (a .widths .now) (mostMitigatedSteps * a .r)
-    (map (widthOf (printable (a .i)) (a .r)) (curveRows (rowsIn (a .state .now)) (standingIn (a .state .now) .floors) (a .r))) (p .print-lines .last .0) (p .print-lines .last .1 .1 .1 .1 .1 .0) (p .print-lines .result) (s .pre .0) (omega (arith, s .pre .1 .0, s .pre .1 .1))
+    (map (widthOf (printable (a .i)) (a .r)) (curveRows (rowsIn (a .state .now)) (standingIn (a .state .now) .floors) (a .r))) (p .print-lines .last .0) (p .print-lines .last .1 .1 .1 .1 .1 .0) (p .print-lines .result) (s .pre .0) (s .pre .1 .1)
     (p .print-lines .ensures .0) (p .print-lines .ensures .1 .0) (p .print-lines .ensures .1 .1 .0) (p .print-lines .ensures .1 .1 .1) (c .before .next .given .0 .0) (c .before .next .given .1)
 
 returns-2 : tie.Need-returns-2
@@ -27,7 +26,7 @@ returns-2 c =
     let s = p .before .before .before .before .before in
     let a = s .args in
     fresh-full (a .out .now) (a .at) (groupText (printable (a .i)) (a .r) (curveRows (rowsIn (a .state .now)) (standingIn (a .state .now) .floors) (a .r))) (a .widths .now) (mostMitigatedSteps * a .r)
-    (map (widthOf (printable (a .i)) (a .r)) (curveRows (rowsIn (a .state .now)) (standingIn (a .state .now) .floors) (a .r))) (p .print-lines .last .0) (p .print-lines .last .1 .1 .1 .1 .1 .0) (p .print-lines .result) (s .pre .0) (omega (arith, s .pre .1 .0, s .pre .1 .1))
+    (map (widthOf (printable (a .i)) (a .r)) (curveRows (rowsIn (a .state .now)) (standingIn (a .state .now) .floors) (a .r))) (p .print-lines .last .0) (p .print-lines .last .1 .1 .1 .1 .1 .0) (p .print-lines .result) (s .pre .0) (s .pre .1 .1)
     (p .print-lines .ensures .0) (p .print-lines .ensures .1 .0) (p .print-lines .ensures .1 .1 .0) (p .print-lines .ensures .1 .1 .1) (c .enum-told .given .1)
 
 pub put-fresh-spec : {M : Type 1} → statement M

@@ -41,7 +41,7 @@ same-length-2 : tie.Need-same-length-2
 same-length-2 c =
     let q = c .before .before in
     let s = q .before .before .before .before .before .before in
-    ap length (q .put-parts .ensures .0) ∙ length-sets (s .args .out .now) 0 (partsText (lines (s .args .text .now)))
+    ap length (q .put-parts .ensures .buffer) ∙ length-sets (s .args .out .now) 0 (partsText (lines (s .args .text .now)))
 
 returns-3 : tie.Need-returns-3
 returns-3 c =
@@ -50,7 +50,7 @@ returns-3 c =
     let s = e .before .before .before in
     let p = q .put-parts .ensures in
     ran-parts (s .args .out .now) (s .args .text .now) (e .if1 .left) (q .before .before .if2 .left) (q .put-parts .last .1 .0) (q .put-parts .result .at) (q .put-parts .result .number) (q .put-parts .result .line)
-    (p .0) (p .1 .0 .0) (p .1 .0 .1) (p .1 .1)
+    (p .buffer) (p .next) (p .few) (p .end)
 
 pub run-spec : {M : Type 1} → statement M
 run-spec =

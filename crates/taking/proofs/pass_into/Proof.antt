@@ -10,7 +10,7 @@ use mir.Syntax.{w64}
 use mir.Val.{toZ, ofZ}
 use Rattle.rules_number.proofs.Kit.{came}
 use Rattle.rules_curve.specs.Refusals.{outcomeNumber}
-use Rattle.rules_interval.specs.Intervals.{intervalOf, intervalRefusal}
+use Rattle.rules_interval.specs.Intervals.{intervalRefusal}
 use Rattle.rules_interval.specs.declared.Interval.{Interval}
 use Rattle.rules_path.specs.declared.Market.{Market}
 use Rattle.rules_pass.specs.Passes.{turnRefusal}
@@ -18,6 +18,7 @@ use Rattle.rules_state.specs.States.{standingIn, quarterIn, marketIn}
 use Rattle.rules_state.specs.Verdicts.{judgedCells}
 use Rattle.rules_state.specs.Takes.{ifAccepted, quarterWritten}
 use Rattle.rules_state.proofs.TakeLaws.{not-written}
+use Rattle.interval.specs.Over.{intervalOver}
 use Rattle.taking.proofs.TurnLaws.{no-interval, three-passes, own-turn, accepted-in, passes-in, pass-written, same-number}
 use Rattle.taking.proofs.pass_into.Statement.{statement}
 use Rattle.taking.proofs.pass_into.Tie as tie
@@ -29,7 +30,7 @@ market s = marketIn (s .args .state .now)
 abbrev values : tie.Start → Interval
 values s =
     let a = s .args in
-    intervalOf (a .constraints) (a .shadow .now) (a .resources) (a .lmp .now) (a .dispatch .now) (a .available .now) (a .floor .now) (a .factors .now) (a .parameter)
+    intervalOver (a .constraints) (a .shadow .now) (a .resources) (a .outputs .now) (a .factors .now) (a .parameter)
 
 abbrev own : tie.Start → ℕ
 own s = intervalRefusal (market s .resources) (values s)
@@ -62,7 +63,7 @@ cut-cells j =
     rw (held s) at (j .cut-into .ensures .1 .0)
     ∙ ap (λ (x : List ℤ). ifAccepted (own s) x (s .args .state .now)) (pass-written (s .args .state .now) (values s) _ (passes-are (j .before .before .before .before .before)))
 
-cut-verdicts : (j : tie.After-cut-into) → j .cut-into .last .1 .1 .1 .1 .1 .1 .1 .1 .1 .1 .1 .1 .0 ≡ ifAccepted (own (start j)) (verdicts (start j)) (start j .args .verdicts .now)
+cut-verdicts : (j : tie.After-cut-into) → j .cut-into .last .1 .1 .1 .1 .1 .1 .1 .1 .1 .0 ≡ ifAccepted (own (start j)) (verdicts (start j)) (start j .args .verdicts .now)
 cut-verdicts j = rw (held (start j)) at (j .cut-into .ensures .1 .1)
 
 -- a number other than 0 leaves both slices

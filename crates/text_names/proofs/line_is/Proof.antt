@@ -9,7 +9,7 @@ use lib.ListN.{length, length-take, length-drop, take, drop}
 use lib.Seq.{take-all}
 use Rattle.rules_text.specs.Words.{wordIn}
 use Rattle.rules_text.specs.Offsets.{namesAt}
-use Rattle.rules_text.proofs.NameLaws.{names-empty, names-past, names-short}
+use Rattle.rules_text.proofs.NameLaws.{names-empty, names-short}
 use Rattle.rules_text.proofs.WordLaws.{Bytes, two-at, four-at, eight-at, word-more, word-other}
 use Rattle.text_names.specs.Pairs.{wordAt}
 use Rattle.text_names.proofs.line_is.Statement.{statement}
@@ -46,7 +46,7 @@ returns : tie.Need-returns Inv-loop μ-loop
 returns c = let a = c .before .before .before .args in names-empty (a .s .now) (a .at) (a .want .now) (c .if1 .taken)
 
 returns-2 : tie.Need-returns-2 Inv-loop μ-loop
-returns-2 c = let a = c .before .before .before .before .args in names-past (a .s .now) (a .at) (a .want .now) (c .if2 .taken) (c .before .if1 .left)
+returns-2 c = let a = c .before .before .before .before .args in names-short (a .s .now) (a .at) (a .want .now) (omega arith)
 
 returns-3 : tie.Need-returns-3 Inv-loop μ-loop
 returns-3 c = let a = c .before .before .before .before .before .args in names-short (a .s .now) (a .at) (a .want .now) (omega arith)

@@ -19,12 +19,8 @@ use Rattle.verdict_page.proofs.put_verdict.Tie as tie
 returns : tie.Need-returns
 returns c =
     let f = c .before .before in
-    let b = f .before .before in
-    let a = b .before in
-    let g = a .before in
-    let p2 = g .before in
-    let p1 = p2 .before in
-    let l = p1 .before in
+    let v = f .before .before in
+    let l = v .before in
     let d = l .before in
     let k = d .before in
     let s = k .before .before in
@@ -33,17 +29,13 @@ returns c =
     let zf = came (cellAt cells from) (k .finding .given) in
     let zd = came (cellAt cells (from + 1)) (d .demand .given) in
     let zl = came (cellAt cells (from + 2)) (l .left .given) in
-    let fi = came (p1 .printable .result) (p1 .printable .ok) ∙ p1 .printable .ensures in
-    let fc = came (p2 .printable2 .result) (p2 .printable2 .ok) ∙ p2 .printable2 .ensures ∙ ap pos (small-printable (s .args .c) (omega (arith, s .pre .1))) in
-    let ff = came (g .finding-of .result) (g .finding-of .ok) ∙ (simp zf at (g .finding-of .ensures)) in
-    let fd = came (a .shown-cell .result) (a .shown-cell .ok) ∙ (simp (zf, zd) at (a .shown-cell .ensures)) in
-    let fl = came (b .shown-cell2 .result) (b .shown-cell2 .ok) ∙ (simp (zf, zl) at (b .shown-cell2 .ensures)) in
+    let fc = ap pos (small-printable (s .args .c) (omega (arith, s .pre .1))) in
+    let row = simp (zf, zd, zl, fc) at (v .verdict-row .ensures) in
     let e = verdict-row cells (s .args .c) (d .demand .given) (l .left .given) in
     subst (λ (text : List ℕ). Put 105 (s .args .out .now) (s .args .at) text (f .put-line .last .0) (f .put-line .result)) (sym (group-one (printable (s .args .i)) (s .args .c) _ ∙ ap (λ (x : Row). lineText (pos (printable (s .args .i)) ∷ pos (s .args .c) ∷ x)) e))
-    (simp (fi, fc, ff, fd, fl) at (f .put-line .ensures))
+    (rw row at (f .put-line .ensures))
 
 pub put-verdict-spec : {M : Type 1} → statement M
 put-verdict-spec =
     tie.close (tie.spec (λ c. search needs) (λ c. search needs) (λ c. search needs) (λ c. search needs) (λ c. search needs) (λ c. search needs)
-    (λ c. search needs) (λ c. search needs) (λ c. search needs) (λ c κs. search needs) (λ c κs. search needs) (λ c κs. search needs)
-    (λ c κs. search needs) (λ c κs. search needs) (λ c κs. search needs) (λ c. search needs) returns)
+    (λ c. search needs) (λ c. search needs) (λ c. search needs) (λ c κs. search needs) (λ c κs. search needs) (λ c. search needs) returns)

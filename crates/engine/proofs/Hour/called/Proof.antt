@@ -1,26 +1,31 @@
 -- `engine::Hour::called` meets its contract. Assumes nothing.
-use mathlib.Core.Path.{_≡_, sym, ap, _∙_}
+use mathlib.Core.Path.{_≡_, sym, ap, subst, _∙_}
 use mathlib.Core.List.{List}
 use borrow.Author.Needs.{needs}
 use mir.Syntax.{w64}
 use mir.Val.{toZ, ofZ}
 use lib.IntN.{ℤ}
-use lib.ListN.{length}
-use lib.Seq.{sets}
+use lib.ListN.{length, length-map}
 use Rattle.rules_number.proofs.Kit.{came}
 use Rattle.rules_curve.specs.Refusals.{outcomeNumber}
+use Rattle.rules_interval.specs.declared.Interval.{Interval}
+use Rattle.rules_state.specs.Layout.{mostResources}
 use Rattle.rules_state.specs.States.{marketIn}
 use Rattle.rules_state.specs.Verdicts.{judgedCells}
 use Rattle.rules_state.proofs.TakeLaws.{accepted-length}
 use Rattle.hour_cells.specs.Calls.{refusalBy}
 use Rattle.hour_cells.proofs.CallLaws.{Called, sound}
+use Rattle.engine.proofs.OutputLaws.{read-over}
 use Rattle.engine.proofs.VerdictsBack.{read-back}
 use Rattle.engine.proofs.Hour.called.Statement.{statement}
 use Rattle.engine.proofs.Hour.called.Tie as tie
 
--- where the call starts, the verdicts' cells before it, and after it
+-- where the call starts, the verdicts' cells before it and after it, and the outputs that are put for it
+abbrev put : tie.After-call-into → tie.After-outputs-of
+put t = t .before .before .before .before .before .before .before .before .before .before
+
 abbrev lent : tie.After-call-into → tie.After-none-found
-lent t = t .before .before .before .before .before .before .before .before .before .before .before .before
+lent t = put t .before .before .before .before .before .before
 
 abbrev start : tie.After-call-into → tie.Start
 start t = lent t .before .before
@@ -29,13 +34,30 @@ abbrev blank : tie.After-call-into → List ℤ
 blank t = lent t .none-found .result
 
 abbrev found : tie.After-call-into → List ℤ
-found t = t .call-into .last .1 .1 .1 .1 .1 .1 .1 .1 .1 .1 .1 .0
+found t = t .call-into .last .1 .1 .1 .1 .1 .1 .1 .1 .0
 
 held : (t : tie.After-call-into) → toZ w64 (ofZ w64 (start t .args .t3 .parameter)) ≡ start t .args .t3 .parameter
-held t = came (start t .args .t3 .parameter) (t .before .before .before .before .before .before .before .before .before .before .before .struct-told .given .1 .1 .1 .1 .1 .1 .1 .1 .0 .1)
+held t = came (start t .args .t3 .parameter) (t .before .before .before .before .before .before .before .before .before .struct-told .given .1 .1 .1 .1 .1 .1 .1 .1 .0 .1)
+
+-- what the types say: an interval has room for 64 resources
+prices : (c : tie.Start) → length (c .args .t3 .lmp) ≡ mostResources
+prices c = simp length-map at (c .good .1 .1 .0 .1 .1 .1 .1 .1 .0 .1 .0 .1)
+
+dispatches : (c : tie.Start) → length (c .args .t3 .dispatch) ≡ mostResources
+dispatches c = simp length-map at (c .good .1 .1 .0 .1 .1 .1 .1 .1 .1 .0 .1 .0 .1)
+
+quantities : (c : tie.Start) → length (c .args .t3 .available) ≡ mostResources
+quantities c = simp length-map at (c .good .1 .1 .0 .1 .1 .1 .1 .1 .1 .1 .0 .1 .0 .1)
+
+floors : (c : tie.Start) → length (c .args .t3 .floor) ≡ mostResources
+floors c = simp length-map at (c .good .1 .1 .0 .1 .1 .1 .1 .1 .1 .1 .1 .0 .1 .0 .1)
 
 made : (t : tie.After-call-into) → let a = start t .args in Called (a .pass) (a .self .cells) (blank t) (a .t3) (outcomeNumber (t .call-into .result)) (t .call-into .last .0) (found t)
-made t = rw (held t) at (t .call-into .ensures)
+made t =
+    let s = start t in
+    let a = s .args in
+    subst (λ (v : Interval). Called (a .pass) (a .self .cells) (blank t) v (outcomeNumber (t .call-into .result)) (t .call-into .last .0) (found t))
+    (read-over (a .t3) (put t .outputs-of .result) (prices s) (dispatches s) (quantities s) (floors s) (put t .outputs-of .ensures)) (rw (held t) at (t .call-into .ensures))
 
 blank-room : (c : tie.After-none-found) → length (c .none-found .result) ≡ 640
 blank-room c = search needs
@@ -57,4 +79,5 @@ returns c =
 
 pub called-spec : {M : Type 1} → statement M
 called-spec =
-    tie.close (tie.spec (λ c κs. search needs) (λ c. search needs) (λ c κs. search needs) slice-aggregate-verdicts-in (λ c κs. search needs) returns)
+    tie.close (tie.spec (λ c κs. search needs) (λ c κs. search needs) (λ c. search needs) (λ c. search needs) (λ c κs. search needs)
+    slice-aggregate-verdicts-in (λ c κs. search needs) returns)

@@ -35,25 +35,25 @@ loop-holds c =
     let a = c .before .args in
     (pricing-start (a .from) (a .m) (a .n) (a .cells .now) (drop (a .at) (a .s .now)), used-none (a .s .now) (a .n) (a .at))
 
-abbrev loops : tie.After-id-row-at Inv-loop μ-loop → tie.At-loop Inv-loop μ-loop
+abbrev loops : tie.After-eight-at Inv-loop μ-loop → tie.At-loop Inv-loop μ-loop
 loops c = c .before .before
 
-abbrev begun : tie.After-id-row-at Inv-loop μ-loop → tie.Start Inv-loop μ-loop
+abbrev begun : tie.After-eight-at Inv-loop μ-loop → tie.Start Inv-loop μ-loop
 begun c = loops c .before .before
 
 -- the text that is left, and the whole with the limit of its lines
-abbrev left : tie.After-id-row-at Inv-loop μ-loop → List ℕ
+abbrev left : tie.After-eight-at Inv-loop μ-loop → List ℕ
 left c = drop (loops c .loop .next) (begun c .args .s .now)
 
-abbrev all : tie.After-id-row-at Inv-loop μ-loop → Reading (List ℤ)
+abbrev all : tie.After-eight-at Inv-loop μ-loop → Reading (List ℤ)
 all c = let a = begun c .args in whole (a .s .now) (a .at) (a .m) (a .n) (a .cells .now) (a .from)
 
-abbrev limit : tie.After-id-row-at Inv-loop μ-loop → ℕ
+abbrev limit : tie.After-eight-at Inv-loop μ-loop → ℕ
 limit c = let a = begun c .args in a .n + length (lines (drop (a .at) (a .s .now)))
 
-answers : (c : tie.After-id-row-at Inv-loop μ-loop)
-    → c .id-row-at .result ≡ asRow (loops c .loop .next + length (line (left c))) (ifSuits (hasId (loops c .loop .r)) (row 8 (line (left c))))
-answers c = c .id-row-at .ensures ∙ row-in (ifSuits (hasId (loops c .loop .r))) (begun c .args .s .now) (loops c .loop .next) 8 refl
+answers : (c : tie.After-eight-at Inv-loop μ-loop)
+    → c .eight-at .result ≡ asRow (loops c .loop .next + length (line (left c))) (ifSuits (hasId (loops c .loop .r)) (row 8 (line (left c))))
+answers c = c .eight-at .ensures ∙ row-in (ifSuits (hasId (loops c .loop .r))) (begun c .args .s .now) (loops c .loop .next) 8 refl
 
 add-line : tie.Need-add-line Inv-loop μ-loop
 add-line c =
@@ -72,7 +72,7 @@ returns c =
     let a = begun r .args in (
       fault-shown (a .s .now) (l .line) (l .cells) 0 0
           ∙ pricing-none (a .from) (a .m) (l .r) (l .line) (l .cells) (left r) (all r) (limit r) (length (a .cells .now)) (l .inv .0) (r .before .loop-test .taken)
-          (not-held (l .next + length (line (left r))) (ifSuits (hasId (l .r)) (row 8 (line (left r)))) (r .id-row-at .result) (answers r) (not-true (r .id-row-at .result .ok) (c .if1 .taken))),
+          (not-held (l .next + length (line (left r))) (ifSuits (hasId (l .r)) (row 8 (line (left r)))) (r .eight-at .result) (answers r) (not-true (r .eight-at .result .ok) (c .if1 .taken))),
       no-next (l .line) (a .at) (0 - a .n) (lines (drop (a .at) (a .s .now))),
     )
 
@@ -86,12 +86,12 @@ put-charges-requires : tie.Need-put-charges-requires Inv-loop μ-loop
 put-charges-requires c κs = omega (arith, c .before .at-most .ensures, begun (c .before .before .before .before .before) .pre .2)
 
 -- ---- one resource more
-abbrev reads : tie.After-cells Inv-loop μ-loop → tie.After-id-row-at Inv-loop μ-loop
+abbrev reads : tie.After-cells Inv-loop μ-loop → tie.After-eight-at Inv-loop μ-loop
 reads c = c .before .before .before .before .before .before .before
 
 there : (c : tie.After-cells Inv-loop μ-loop)
-    → let r = reads c in Held (loops r .loop .next + length (line (left r))) (ifSuits (hasId (loops r .loop .r)) (row 8 (line (left r)))) (r .id-row-at .result)
-there c = let r = reads c in held _ _ (r .id-row-at .result) (answers r) (not-false (r .id-row-at .result .ok) (c .before .before .before .before .if1 .left))
+    → let r = reads c in Held (loops r .loop .next + length (line (left r))) (ifSuits (hasId (loops r .loop .r)) (row 8 (line (left r)))) (r .eight-at .result)
+there c = let r = reads c in held _ _ (r .eight-at .result) (answers r) (not-false (r .eight-at .result .ok) (c .before .before .before .before .if1 .left))
 
 add-r : tie.Need-add-r Inv-loop μ-loop
 add-r c = omega (arith, reads c .before .loop-test .taken, begun (reads c) .fits .m)
@@ -110,9 +110,9 @@ put-is c =
     let a = begun r .args in
     let m = c .before .before .before .at-most in
     let vs = chargeCells (there c .x) in
-    let eight : length (r .id-row-at .result .v) ≡ 8 = search needs in
+    let eight : length (r .eight-at .result .v) ≡ 8 = search needs in
     c .before .put-charges .ensures
-    ∙ ap (sets (l .cells) (blockRoom * m .result + a .from)) (charges-are (r .id-row-at .result .v) (there c .x) eight (there c .cells))
+    ∙ ap (sets (l .cells) (blockRoom * m .result + a .from)) (charges-are (r .eight-at .result .v) (there c .x) eight (there c .cells))
     ∙ ap (λ (k : ℕ). sets (l .cells) (blockRoom * k + a .from) vs) (m .ensures)
     ∙ place-same (l .cells) (l .r) (a .from) vs (omega (arith, l .inv .0 .long, begun r .pre .1))
 
@@ -123,7 +123,7 @@ loop-again c =
     let a = begun r .args in
     let h = there c in (
       pricing-turn (a .from) (a .m) (l .r) (l .line) (l .cells) (left r) (all r) (limit r) (length (a .cells .now)) (l .inv .0) (r .before .loop-test .taken) (h .x) (h .is) _ (put-is c)
-          (drop (r .id-row-at .result .next) (a .s .now))
+          (drop (r .eight-at .result .next) (a .s .now))
           (ap (λ (n : ℕ). drop n (a .s .now)) (h .after) ∙ sym (drop-drop (length (line (left r))) (l .next) (a .s .now))),
       used-next (l .inv .1) (h .after),
     )
