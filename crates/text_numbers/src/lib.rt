@@ -118,7 +118,7 @@ fn minus(v: u64) -> i64
 }
 
 // The number at an offset.
-pub fn number_at(s: &[u8], at: usize) -> Number
+fn number_at(s: &[u8], at: usize) -> Number
     ensures { λ r. ⌜ r ≡ numberAt (now (s .entry)) at ⌝ }
 {
     if s.len() <= at {
@@ -362,7 +362,7 @@ fn any_three(s: &[u8], at: usize) -> Three
 }
 
 // Whether a value is the id n.
-pub fn is_id(n: usize, x: i64) -> bool
+pub(crate) fn is_id(n: usize, x: i64) -> bool
     ensures { λ r. ⌜ r ≡ eqZ (pos n) x ⌝ }
 {
     if x < 0 {
