@@ -45,7 +45,7 @@ const ROOM: usize = Interval::MAX_RESOURCES * rules_state::BLOCK_ROOM;
 const OWNERS_ROOM: usize = 2 * Interval::MAX_RESOURCES;
 
 // A text of at most so many bytes has most likely one resource.
-const SHORT_BYTES: usize = 1024;
+pub const SHORT_BYTES: usize = 1024;
 
 const ONE_OWNER: usize = 2;
 

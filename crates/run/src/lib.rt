@@ -1,5 +1,6 @@
 // The whole run: a text in, what is printed out (paper 01, Text). The contracts cite the definitions of rules_run.
 use opening_part::PartOpened;
+use opening_part::SHORT_BYTES;
 use rules_interval::Interval;
 use rules_mitigation::Mitigated;
 use rules_run::Ran;
@@ -53,9 +54,6 @@ fn put_refusal(out: &mut [u8], at: usize, number: u64, line: usize) -> Ending
         Printed::Full => Ending { at, number, line },
     }
 }
-
-// A text of at most so many bytes has most likely one resource.
-const ONE_BYTES: usize = 1024;
 
 const ONE_CELLS: usize = rules_state::ROWS_FROM + rules_state::ROW_ROOM;
 
@@ -388,7 +386,7 @@ fn put_parts(text: &[u8], out: &mut [u8]) -> Ending
     requires { ⌜ (655424 ≤ length (now out)) × (length (now text) ≤ 65536) ⌝ }
     ensures { λ r. ⌜ PartsPut (now (text .entry)) (now (out .entry)) (now (out .exit)) (r .at) (r .number) (r .line) ⌝ }
 {
-    if text.len() <= ONE_BYTES {
+    if text.len() <= SHORT_BYTES {
         return put_one(text, out);
     }
     if text.len() <= FEW_BYTES {
