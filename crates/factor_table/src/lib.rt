@@ -1,8 +1,8 @@
 // The table of an interval's shift factors, at an offset of a lent text (paper 01, Text). The contracts cite specs/Factors and the definitions of rules_text.
 use cells::put;
 use rules_interval::Interval;
-use text_numbers::ids::ids_triple_at;
 use text_tables::Table;
+use text_triples::ids_triple_at;
 ghost use mathlib.Core.Path.{_≡_};
 ghost use mathlib.Core.Option.{none};
 ghost use Prim.Native.Nat.{ℕ, _+_, _*_, _≤_, _<_};

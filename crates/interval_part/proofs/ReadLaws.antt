@@ -11,8 +11,8 @@ use Rattle.rules_text.specs.declared.Row as source
 use Rattle.rules_text.specs.Numbers.{Line, Row, bytes, same, lines, magnitude, number, row}
 use Rattle.rules_text.specs.Offsets.{asRow, rowAt}
 use Rattle.rules_text.proofs.RowLaws.{row-in, Held, held}
-use Rattle.text_numbers.specs.Rows.{singleOf}
-use Rattle.text_numbers.specs.declared.rows.One.{One}
+use Rattle.text_rows.specs.Rows.{singleOf}
+use Rattle.text_rows.specs.declared.One.{One}
 use Rattle.rules_text.specs.Tables.{Reading, faulty, found, taken, due, headed, cell, one, single, ifSuits}
 use Rattle.rules_text.proofs.LineLaws.{line, after, lines-after, next-lines}
 use Rattle.rules_text.proofs.TableLaws.{row-there, due-none, due-some}

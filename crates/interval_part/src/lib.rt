@@ -8,7 +8,7 @@ use rules_state::VERDICT_ROOM;
 use rules_text::Found;
 use taking::take_into;
 use text_names::line_is;
-use text_numbers::rows::single_at;
+use text_rows::single_at;
 use text_tables::marks_at;
 use text_tables::outputs_at;
 ghost use mathlib.Core.Path.{_≡_};

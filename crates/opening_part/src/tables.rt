@@ -2,8 +2,8 @@
 // definitions of rules_text.
 use rules_curve::Curve;
 use rules_interval::Interval;
-use text_lines::id_three_at;
-use text_numbers::rows::eight_at;
+use text_rows::eight_at;
+use text_triples::id_triple_at;
 ghost use mathlib.Core.Path.{_≡_};
 ghost use mathlib.Core.Bool.{cond};
 ghost use Prim.Native.Nat.{_+_, _-_, _*_, _≤_};
@@ -55,7 +55,7 @@ fn pairs_into(s: &[u8], at: usize, r: usize, cells: &mut [i64], base: usize) -> 
     let mut count = 0;
     let mut next = at;
     loop {
-        let row = id_three_at(s, next, r);
+        let row = id_triple_at(s, next, r);
         if !row.ok {
             return Group { count, next };
         }

@@ -1,6 +1,6 @@
 // Lines of values and names lines, put into a lent buffer at an offset (paper 01, Text). The contracts cite the definitions of rules_text.
 use rules_text::Printed;
-use text_numbers::closing;
+use text_bytes::closing;
 ghost use mathlib.Core.Path.{_≡_};
 ghost use mathlib.Core.Bool.{true, false, cond};
 ghost use mathlib.Core.List.{[], _∷_, _++_};

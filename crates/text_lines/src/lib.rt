@@ -1,13 +1,11 @@
 // Lines of values at an offset of a lent text (paper 01, Text). The contracts cite the definitions of rules_text.
 use rules_text::Number;
 use rules_text::Row;
-use rules_text::Three;
+use text_bytes::closing;
 use text_numbers::closed_at;
-use text_numbers::closing;
-use text_numbers::id_triple_at;
 ghost use mathlib.Core.Path.{_≡_};
 ghost use mathlib.Core.Option.{none};
-ghost use Rattle.rules_text.specs.Offsets.{asRow, rowAt, threeOf, idRowAt};
+ghost use Rattle.rules_text.specs.Offsets.{asRow, rowAt};
 
 fn no_row() -> Row
     ensures { λ r. ⌜ r ≡ asRow 0 none ⌝ }
@@ -45,11 +43,4 @@ pub fn row_at(s: &[u8], at: usize, k: usize) -> Row
         v,
         next: p,
     }
-}
-
-// The three values of the line at an offset, where the first of them is the id n; otherwise no row.
-pub fn id_three_at(s: &[u8], at: usize, n: usize) -> Three
-    ensures { λ r. ⌜ r ≡ threeOf (idRowAt n (now (s .entry)) at 3) ⌝ }
-{
-    id_triple_at(s, at, n)
 }

@@ -25,8 +25,8 @@ use Rattle.rules_text.proofs.LineLaws.{line, after, lines-cons, lines-some}
 use Rattle.rules_text.proofs.RowLaws.{row-in, in-range, Held, held, closing-some}
 use Rattle.rules_text.proofs.TableLaws.{row-there}
 use Rattle.rules_text.proofs.UsedLaws.{Used, used-none, used-next, used-count}
-use Rattle.text_numbers.specs.Rows.{oneOf}
-use Rattle.text_numbers.specs.declared.rows.One.{One}
+use Rattle.text_rows.specs.Rows.{oneOf}
+use Rattle.text_rows.specs.declared.One.{One}
 
 -- ---- a line of k values has so many bytes at least
 module _ (k : ℕ) (shorter : (l : Line) (x : Row) → row k l ≡ some x → k ≤ length l) (l : Line) (x : Row) where

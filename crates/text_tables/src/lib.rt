@@ -1,10 +1,10 @@
 // Tables of lines that count up by one, at an offset of a lent text (paper 01, Text): portfolios, resources, constraints and outputs.
 // The contracts cite the definitions of rules_text.
 use cells::put;
-use text_numbers::rows::four_at;
-use text_numbers::rows::mark_at;
-use text_numbers::rows::one_at;
-use text_numbers::rows::two_at;
+use text_rows::four_at;
+use text_rows::mark_at;
+use text_rows::one_at;
+use text_rows::two_at;
 ghost use mathlib.Core.Path.{_≡_};
 ghost use mathlib.Core.List.{[], _∷_, map, flatMap};
 ghost use Prim.Native.Nat.{_+_};

@@ -3,7 +3,7 @@ use borrow.Author.Needs.{needs}
 use mathlib.Core.Path.{ap}
 use native.Mathlib.Omega.{arith}
 use Rattle.rules_number.proofs.Kit.{came}
-use Rattle.text_numbers.specs.declared.rows.Four.{Four}
+use Rattle.text_rows.specs.declared.Four.{Four}
 use Rattle.text_tables.proofs.ColumnLaws.{Keeps, left, starts, same-room, ended, fewer, again}
 use Rattle.text_tables.proofs.outputs_at.Statement.{statement}
 use Rattle.text_tables.proofs.outputs_at.Tie as tie

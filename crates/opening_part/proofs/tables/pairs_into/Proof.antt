@@ -38,9 +38,9 @@ begun l = l .before .before
 abbrev left : tie.At-loop Inv-loop μ-loop → List ℕ
 left l = drop (l .loop .next) (begun l .args .s .now)
 
-answers : (c : tie.After-id-three-at Inv-loop μ-loop)
-    → c .id-three-at .result ≡ threeOf (asRow (c .before .loop .next + length (line (left (c .before)))) (ifSuits (hasId (begun (c .before) .args .r)) (row 3 (line (left (c .before))))))
-answers c = let a = begun (c .before) .args in c .id-three-at .ensures ∙ ap threeOf (row-in (ifSuits (hasId (a .r))) (a .s .now) (c .before .loop .next) 3 refl)
+answers : (c : tie.After-id-triple-at Inv-loop μ-loop)
+    → c .id-triple-at .result ≡ threeOf (asRow (c .before .loop .next + length (line (left (c .before)))) (ifSuits (hasId (begun (c .before) .args .r)) (row 3 (line (left (c .before))))))
+answers c = let a = begun (c .before) .args in c .id-triple-at .ensures ∙ ap threeOf (row-in (ifSuits (hasId (a .r))) (a .s .now) (c .before .loop .next) 3 refl)
 
 returns : tie.Need-returns Inv-loop μ-loop
 returns c =
@@ -48,11 +48,11 @@ returns c =
     let l = q .before in
     let a = begun l .args in
     let d = pairing-end (a .s .now) (a .at) (a .r) (a .cells .now) (a .base) (l .loop .cells) (l .loop .count) (l .loop .next) (l .loop .inv)
-    (not-held-three _ _ (q .id-three-at .result) (answers q) (not-true (q .id-three-at .result .ok) (c .if1 .taken))) in
+    (not-held-three _ _ (q .id-triple-at .result) (answers q) (not-true (q .id-triple-at .result .ok) (c .if1 .taken))) in
     (d .counts, (d .stores, used-count (l .loop .inv .used)))
 
 -- ---- one line more
-abbrev asked : tie.After-put-pair Inv-loop μ-loop → tie.After-id-three-at Inv-loop μ-loop
+abbrev asked : tie.After-put-pair Inv-loop μ-loop → tie.After-id-triple-at Inv-loop μ-loop
 asked c = c .before .before .before .before .before .before
 
 abbrev loops : tie.After-put-pair Inv-loop μ-loop → tie.At-loop Inv-loop μ-loop
@@ -61,12 +61,12 @@ loops c = asked c .before
 turn : (c : tie.After-put-pair Inv-loop μ-loop)
     → let l = loops c in
     let a = begun l .args in
-    Turned (a .s .now) (a .at) (a .r) (a .cells .now) (a .base) (l .loop .cells) (l .loop .count) (l .loop .next) (l .loop .inv) (c .put-pair .last .0) (asked c .id-three-at .result .next)
+    Turned (a .s .now) (a .at) (a .r) (a .cells .now) (a .base) (l .loop .cells) (l .loop .count) (l .loop .next) (l .loop .inv) (c .put-pair .last .0) (asked c .id-triple-at .result .next)
 turn c =
     let q = asked c in
     let l = q .before in
     let a = begun l .args in
-    let x = q .id-three-at .result in
+    let x = q .id-triple-at .result in
     pairing-turn (a .s .now) (a .at) (a .r) (a .cells .now) (a .base) (l .loop .cells) (l .loop .count) (l .loop .next) (l .loop .inv) x
     (held-three _ _ x (answers q) (not-false (x .ok) (c .before .before .before .before .if1 .left))) _
     (_∙_ {b = pairPut (a .base) (l .loop .count) (l .loop .cells) (rd (x .second)) (rd (x .third))} (c .put-pair .ensures)

@@ -1,0 +1,3 @@
+-- Definitions that the contracts of the crate, and of those that read lines, cite.
+pub mod Heads
+pub mod Shorts

@@ -1,3 +1,0 @@
--- Definitions that the contracts of the crate cite.
-pub mod Short
-pub mod Rows
