@@ -1,6 +1,6 @@
 /*
- * example_hour: Case T in numbers. It opens an hour with one resource, takes an interval, and prints the verdict, why the bid was cut, and the
- * bid curve after it.
+ * example_hour: Case T in numbers. It opens an hour with one resource, takes an interval, and prints the verdict, whether a cap applies and
+ * why, and the bid curve after it.
  */
 #include <inttypes.h>
 #include <stdio.h>
@@ -22,7 +22,7 @@ static int64_t open_hour(void)
     return noskjerf_open(25, 1, sellers, 1, 1, blocks, NOSKJERF_BLOCK, state, NOSKJERF_STATE);
 }
 
-/* Asks why an interval cuts the bid, takes it, and prints what is answered. */
+/* Asks whether a cap applies in an interval and why, takes it, and prints what is answered. */
 static int64_t take_interval(void)
 {
     static const int64_t shadow[] = { 500000 };
@@ -35,7 +35,7 @@ static int64_t take_interval(void)
     }
     if (number == 0) {
         printf("verdict %" PRId64 ", demand %" PRId64 ", left %" PRId64 "\n", verdicts[0], verdicts[1], verdicts[2]);
-        printf("cut %" PRId64 ", component %" PRId64 ", competitive price %" PRId64 ", floor price %" PRId64 "\n", causes[0], causes[1],
+        printf("capped %" PRId64 ", component %" PRId64 ", competitive price %" PRId64 ", floor price %" PRId64 "\n", causes[0], causes[1],
                causes[2], causes[3]);
     }
     return number;

@@ -10,7 +10,7 @@
  * - A pointer with a length stands for that many elements. Where the length is 0 nothing is read or written through it, so that it may be
  *   null, as that of an empty std::vector; elsewhere it must not be. Buffers that are written must not overlap anything else that is passed.
  * - It keeps nothing between calls, allocates nothing and reads no files: any number of threads may call it at once. A run
- *   takes at most 128 KB of stack, and so does any other call; give a thread that calls it 256 KiB.
+ *   takes at most 144 KB of stack, and so does any other call; give a thread that calls it 256 KiB.
  *
  * Units: quantities are hundredths of a MW, prices 0.0001 dollar per MWh, heat rates Btu/kWh.
  *
@@ -35,8 +35,8 @@ extern "C" {
 #define NOSKJERF_MAX_TEXT 65536
 
 /* How many bytes of stack a run takes at most, and any call. */
-#define NOSKJERF_RUN_STACK 128000
-#define NOSKJERF_STACK 128000
+#define NOSKJERF_RUN_STACK 144000
+#define NOSKJERF_STACK 144000
 
 /* How many numbers the last buffer of noskjerf_told has to have. */
 #define NOSKJERF_TOLD 2
@@ -126,6 +126,7 @@ uint64_t noskjerf_bid(uint64_t month, int64_t start, size_t count, const int64_t
  *   edges[1]                where it starts
  *   edges[2] and after it   the end of each step
  *   prices[0] and after it  the price of each step
+ * Of 13 edges and 11 prices those past the steps are 0; what stands past these is left alone.
  * Or it answers the lowest refusal that applies, and leaves the buffers as they were:
  *   4  the point count is outside 2 to 11
  *   5  a quantity is outside 0 to 1,000,000, or the quantities do not rise
@@ -244,13 +245,21 @@ int64_t noskjerf_pass(int64_t *state, size_t state_len, size_t constraints, cons
                       int64_t *verdicts, size_t verdicts_len);
 
 /*
- * Tells why an interval or a pass with these numbers cuts each resource or not. The state is only read, and whose turn it is plays no part.
+ * How many sellers the verdict on constraint c names, at most three, of the `verdicts` that an interval or a pass filled: the ones among the bits of
+ * its fourth number. Past 32 constraints nobody is named. It answers -1 where verdicts_len is below NOSKJERF_VERDICTS.
+ */
+int64_t noskjerf_sellers(const int64_t *verdicts, size_t verdicts_len, size_t c);
+
+/*
+ * Tells whether and why an interval or a pass with these numbers caps the bid of each resource. The state is only read, and whose turn it is
+ * plays no part. A cap may lie above the price that it caps, which then stays: whether a bid is cut is seen by its curve before and after.
  *
  * Answers 0 and fills the first NOSKJERF_CAUSES numbers of `causes`. Those of resource r begin at 4 * r; past the resources they are 0:
- *   0  1 where its bid is cut, else 0: it is where dispatch and component are above 0
+ *   0  capped: 1 where a cap applies, else 0. One applies where dispatch and component are above 0
  *   1  its component C, minus the sum of shift factor times shadow price over the non-competitive constraints, in millionths
  *   2  its competitive price: locational price less C, up
- *   3  where it is cut its floor price, the competitive price and the parameter; else 0
+ *   3  where a cap applies its floor price, the competitive price and the parameter; else 0. The cap of a quantity is the higher of its default
+ *      price and the floor price
  * Or it answers the lowest of 13 to 16 that applies, as noskjerf_interval.
  */
 int64_t noskjerf_why(const int64_t *state, size_t state_len, size_t constraints, const int64_t *shadow, size_t shadow_len, size_t resources,
@@ -261,7 +270,7 @@ int64_t noskjerf_why(const int64_t *state, size_t state_len, size_t constraints,
  * The bid curve of resource r after the accepted intervals.
  *
  * Answers 0 and fills the first NOSKJERF_HOUR_EDGES numbers of `edges` and the first NOSKJERF_HOUR_PRICES of `prices`:
- *   edges[0]                how many steps the curve has, 1 to 20
+ *   edges[0]                how many steps the curve has, 1 to 20; whatever stands in the state, never more than 20
  *   edges[1]                where it starts, which is where the bid does
  *   edges[2] and after it   the end of each step
  *   prices[0] and after it  the price of each step
@@ -281,7 +290,11 @@ int64_t noskjerf_five_minute(const int64_t *state, size_t state_len, size_t r, u
 int64_t noskjerf_hour_bid(const int64_t *state, size_t state_len, size_t r, uint64_t *edges, size_t edges_len, int64_t *prices,
                           size_t prices_len);
 
-/* Its default curve, in buffers as noskjerf_default fills them: NOSKJERF_EDGES and NOSKJERF_PRICES numbers. */
+/*
+ * Its default curve, in buffers as noskjerf_default fills them: NOSKJERF_EDGES and NOSKJERF_PRICES numbers, all of which are written where it
+ * answers 0. edges[0] is 1 to 11 in an opened hour and, whatever stands in the state, never more than 11. Numbers past the steps are 0 in an
+ * hour that noskjerf_open made; else they are what stands in the state there. A resource that the hour doesn't have has a curve with no steps.
+ */
 int64_t noskjerf_default_of(const int64_t *state, size_t state_len, size_t r, uint64_t *edges, size_t edges_len, int64_t *prices,
                             size_t prices_len);
 

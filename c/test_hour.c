@@ -316,6 +316,26 @@ static void test_sellers(void)
     CHECK(take_four(0, 6) == 0 && is_verdict(1, 6, 5, 14 << 12, without_buyer));
 }
 
+/* How many are named: of three sellers, of one, of a constraint that isn't there, and of garbage. */
+static void test_sellers_counted(void)
+{
+    static const size_t outside[] = { 1, 31, 32, 33, SIZE_MAX / NOSKJERF_VERDICT + 1, SIZE_MAX };
+    size_t i;
+    CHECK(take_four(1, 3) == 0);
+    CHECK(noskjerf_sellers(verdicts, LENGTH(verdicts), 0) == 3);
+    for (i = 0; i < LENGTH(outside); i++) {
+        CHECK(noskjerf_sellers(verdicts, LENGTH(verdicts), outside[i]) == 0);
+    }
+    CHECK(noskjerf_sellers(verdicts, NOSKJERF_VERDICTS - 1, 0) == -1);
+    CHECK(noskjerf_sellers(NULL, 0, 0) == -1);
+    open_block(block_of_t);
+    CHECK(take_at(600000) == 0 && noskjerf_sellers(verdicts, LENGTH(verdicts), 0) == 1);
+    fill(verdicts, LENGTH(verdicts), -1);
+    CHECK(noskjerf_sellers(verdicts, LENGTH(verdicts), 31) == 0);
+    fill(verdicts, LENGTH(verdicts), INT64_MAX);
+    CHECK(noskjerf_sellers(verdicts, LENGTH(verdicts), 31) == 32);
+}
+
 /* ---- refusals of opening */
 
 /* Whether an opening is refused with this number, and the state left as it was. */
@@ -599,7 +619,7 @@ static int is_answered(void)
     v.resources = resources > 65 ? 65 : (size_t)resources;
     for (i = 0; i < LENGTH(calls); i++) {
         for (r = 0; r < 66; r++) {
-            if (ask(calls[i], r) != 0) {
+            if (ask(calls[i], r) != 0 || edges[0] > (calls[i] == noskjerf_default_of ? 11u : 20u)) {
                 return 0;
             }
         }
@@ -626,6 +646,21 @@ static void test_garbage(void)
     }
 }
 
+/* A count past the room of a default curve, as a state that opening never made may have it: the steps that are there are handed out. */
+static void test_count_past_room(void)
+{
+    static const int64_t counts[] = { 12, 1000000, INT64_MAX };
+    const size_t cell = 363; /* the default curve's count of resource 0 */
+    size_t i;
+    open_block(block_of_t);
+    CHECK(state[cell] == 3);
+    for (i = 0; i < LENGTH(counts); i++) {
+        state[cell] = counts[i];
+        CHECK(ask(noskjerf_default_of, 0) == 0);
+        CHECK(edges[0] == 11 && edges[2] == 20000 && prices[0] == 378402);
+    }
+}
+
 /* A copy goes its own way, and goes the same way as the hour it is a copy of. */
 static void test_copies(void)
 {
@@ -642,9 +677,9 @@ static void test_copies(void)
 
 /* ---- why */
 
-static int is_cause(int64_t cut, int64_t component, int64_t competitive, int64_t floor)
+static int is_cause(int64_t capped, int64_t component, int64_t competitive, int64_t floor)
 {
-    return causes[0] == cut && causes[1] == component && causes[2] == competitive && causes[3] == floor;
+    return causes[0] == capped && causes[1] == component && causes[2] == competitive && causes[3] == floor;
 }
 
 static void test_why(void)
@@ -673,8 +708,24 @@ static void test_why(void)
     CHECK(memcmp(kept, state, sizeof kept) == 0);
 }
 
-/* Two resources of one seller: the one with the positive factor has a component below 0, the one that is not dispatched is not cut. */
-static void test_why_of_two(void)
+/* P8 of paper 01: a bid of 300000 below its cap, the default price. A cap applies, and nothing is cut. */
+static void test_a_cap_that_changes_nothing(void)
+{
+    struct interval v = interval_of_t();
+    int64_t block[NOSKJERF_BLOCK];
+    memcpy(block, block_of_t, sizeof block);
+    block[2] = 1;
+    block[3] = 30000;
+    CHECK(block[4] == 300000);
+    open_block(block);
+    CHECK(why(&v) == 0 && is_cause(1, 250000000000, 350000, 350100));
+    CHECK(take(&v) == 0);
+    CHECK(ask(noskjerf_curve, 0) == 0);
+    CHECK(edges[0] == 1 && edges[1] == 10000 && edges[2] == 30000 && prices[0] == 300000);
+}
+
+/* Three resources of one seller: the one with the positive factor has a component below 0, to the one that is not dispatched no cap applies. */
+static void test_why_of_three(void)
 {
     int64_t blocks[3 * NOSKJERF_BLOCK];
     struct interval v = interval_of_t();
@@ -707,6 +758,7 @@ int main(void)
     test_hour_bid();
     test_no_such_resource();
     test_sellers();
+    test_sellers_counted();
     test_refused_bids_and_costs();
     test_refused_packs();
     test_order();
@@ -720,8 +772,10 @@ int main(void)
     test_short_slices();
     test_short_curves();
     test_garbage();
+    test_count_past_room();
     test_copies();
     test_why();
-    test_why_of_two();
+    test_a_cap_that_changes_nothing();
+    test_why_of_three();
     return report("test_hour");
 }

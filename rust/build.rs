@@ -1,4 +1,4 @@
-//! Links libnoskjerf.a from ../target/lib, or from the folder that NOSKJERF_LIB names.
+//! Links libnoskjerf.a from ../target/lib, or from the folder that NOSKJERF_LIB names as an absolute path.
 
 use std::env;
 use std::path::PathBuf;
@@ -19,7 +19,7 @@ fn main() {
     println!("cargo:rerun-if-changed={}", library.display());
     if !library.is_file() {
         eprintln!(
-            "there is no {}: write it with ./archive, or name its folder in NOSKJERF_LIB",
+            "there is no {}: write it with ./archive, or name its folder, as an absolute path, in NOSKJERF_LIB",
             library.display()
         );
         process::exit(1);

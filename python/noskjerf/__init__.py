@@ -35,12 +35,14 @@ default energy bid, and `Book` takes the gas price for it from published prices.
 >>> [step.price for step in page.curves[0].steps]
 [300000, 378402, 444403, 488402]
 
-Quantities are hundredths of a MW and prices 0.0001 dollar per MWh. Any number of threads may call at once; a thread needs a stack of
-1 MiB, which is less than Python gives it by default.
+Quantities are hundredths of a MW and prices 0.0001 dollar per MWh; `mw(300)` and `dollars("64.29")` give such numbers. Any number of
+threads may call at once; a thread needs a stack of 1 MiB, which is less than Python gives it by default.
 """
 
 from ._library import LibraryError
 from ._version import __version__
+from .amounts import dollars, mw
+from .form import Slip
 from .gas import Book, Entry, Market
 from .hour import Hour
 from .judgement import bid, default_curve
@@ -92,13 +94,16 @@ __all__ = [
     "Refusal",
     "Resource",
     "Seller",
+    "Slip",
     "Step",
     "Verdict",
     "__version__",
     "bid",
     "default_curve",
+    "dollars",
     "explain",
     "interval_of",
+    "mw",
     "opening_of",
     "read",
     "run",

@@ -14,7 +14,7 @@ FILE = "libnoskjerf.so"
 VARIABLE = "NOSKJERF_LIBRARY"
 LINE = "gcc -shared -o python/noskjerf/libnoskjerf.so -Wl,--whole-archive target/lib/libnoskjerf.a -Wl,--no-whole-archive"
 
-# A call takes at most 128 KB of stack.
+# A call takes at most 144 KB of stack.
 STACK = 1 << 20
 
 _I64 = POINTER(c_int64)

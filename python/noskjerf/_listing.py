@@ -7,6 +7,7 @@ from collections.abc import Iterator
 from html import escape
 
 from .diagnosis import Fault, diagnose
+from .form import Slip
 from .refusal import Refusal, explain
 
 # Lines shown before and after each that is marked. A refused part is shown whole up to so many lines, and so many faults are told.
@@ -17,11 +18,12 @@ SEEN = {ord("\t"): "⇥", ord("\r"): "␍", 0: "␀", 0xFEFF: "␣"}
 
 
 def explained(text: bytes, refusal: Refusal) -> str:
-    """What the refusal says, the values at fault, what to mend, the text, and when the refusal is told, from docs/REFUSALS.md."""
-    entry = explain(refusal.number)
+    """What the refusal says, the values at fault or what was due, what to mend, the text, and when the refusal is told, from docs/REFUSALS.md."""
+    entry, slip = explain(refusal.number), refusal.slip
     faults = [fault for fault in diagnose(text).faults if refusal.number < 17]
+    mend = escape(slip.mend) if slip is not None and slip.mend else marked_up(entry.mend)
     return f"""<p><strong>{escape(refusal.sentence[0].upper() + refusal.sentence[1:])}</strong> (refusal {refusal.number}). {_where(refusal, faults)}</p>
-{_told(faults)}<p><strong>Mend</strong>: {marked_up(entry.mend)}</p>
+{_told(faults) if slip is None else _due(slip)}<p><strong>Mend</strong>: {mend}</p>
 {_listing(text.split(bytes([10])), refusal, faults[:TOLD])}
 <details>
 <summary>When this is told</summary>
@@ -31,7 +33,8 @@ def explained(text: bytes, refusal: Refusal) -> str:
 
 def _where(refusal: Refusal, faults: list[Fault]) -> str:
     if refusal.number == 17:
-        return f"Line {refusal.line} is the first that isn't of the form; it is marked below."
+        column = "" if refusal.slip is None or refusal.slip.column is None else f", at column {refusal.slip.column}"
+        return f"Line {refusal.line} is the first that isn't of the form{column}; it is marked below."
     if refusal.number == 18:
         return "The text is too long to be read at all."
     if faults:
@@ -43,6 +46,12 @@ def _told(faults: list[Fault]) -> str:
     rest = [f"and {len(faults) - TOLD} more"] if len(faults) > TOLD else []
     items = "".join(f"<li>{escape(said)}</li>\n" for said in [*map(str, faults[:TOLD]), *rest])
     return f"<ul>\n{items}</ul>\n" if items else ""
+
+
+def _due(slip: Slip) -> str:
+    """The line with a caret below its column, and what was due there."""
+    due = " or ".join(f"<code>{escape(each)}</code>" for each in slip.due)
+    return f"<pre>{escape(chr(10).join(slip.picture()))}</pre>\n" + (f"<p><strong>Due</strong>: {due}</p>\n" if due else "")
 
 
 def marked_up(text: str) -> str:
@@ -100,7 +109,7 @@ def _note(lines: list[bytes], refusal: Refusal) -> str:
     if refusal.number == 18:
         return "the text is too long"
     if refusal.number == 17:
-        return "the text ends here" if refusal.line == len(lines) and not lines[-1] else "not of the form"
+        return "not of the form" if refusal.slip is None or refusal.slip.cause is None else refusal.slip.cause
     return f"{refusal.part} is refused"
 
 

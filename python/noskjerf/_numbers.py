@@ -3,28 +3,32 @@
 from __future__ import annotations
 
 import ctypes
+import math
 import numbers
 import operator
+import re
 from collections.abc import Iterable, Mapping, Sequence, Set
+from decimal import Decimal
 from typing import TYPE_CHECKING
+
+from .amounts import LOW, TOP, advice, due
 
 if TYPE_CHECKING:
     from typing_extensions import TypeGuard
 
-LOW = -(1 << 63)
-TOP = (1 << 63) - 1
 TOP_U32 = (1 << 32) - 1
 TOP_U64 = (1 << 64) - 1
 
 
 def whole(what: str, value: object, low: int = LOW, top: int = TOP) -> int:
-    """A whole number, also one that comes as 3.0 or as a number of numpy.
+    """A whole number of Python or of numpy. A number with a decimal point is an error that says what to write: nobody can tell whether
+    it is meant in MW and dollars or in the engine's units.
 
-    >>> whole("price", 3.0)
+    >>> whole("price", 3)
     3
     >>> whole("price", 3.5)
     Traceback (most recent call last):
-    ValueError: price: 3.5 is no whole number
+    TypeError: price: a whole number of units of 0.0001 dollar is due, not the float 3.5: write dollars(3.5)
     """
     number = value if type(value) is int else _integer(what, value)
     if not low <= number <= top:
@@ -35,28 +39,34 @@ def whole(what: str, value: object, low: int = LOW, top: int = TOP) -> int:
 def _integer(what: str, value: object) -> int:
     if type(value).__name__ in ("bool", "bool_"):
         raise TypeError(f"{what}: a whole number is due, not {value}")
-    if isinstance(value, numbers.Real) and not isinstance(value, numbers.Integral):
-        return _whole_float(what, value)
+    if isinstance(value, (numbers.Real, Decimal, str)) and not isinstance(value, numbers.Integral):
+        raise _with_a_point(what, value)
     try:
-        return operator.index(value)  # type: ignore[arg-type]
+        return int.__index__(operator.index(value))  # type: ignore[arg-type]
     except TypeError:
         raise TypeError(f"{what}: a whole number is due, not {_kind(value)}") from None
 
 
-def _whole_float(what: str, value: numbers.Real) -> int:
-    try:
-        number = int(value)
-    except (ValueError, OverflowError):
-        raise ValueError(f"{what}: {value} is no whole number") from None
-    if number != value:
-        raise ValueError(f"{what}: {value} is no whole number")
-    return number
+def _with_a_point(what: str, value: numbers.Real | Decimal | str) -> TypeError | ValueError:
+    """The error for a decimal number or a text: what to write in its place."""
+    if not _finite(value):
+        return ValueError(f"{what}: {value} is no whole number")
+    field = re.sub(r"\[[0-9]+\]", "", what).rpartition(".")[2]
+    said = f"{value!r}"[:40] if isinstance(value, str) else f"{value}"[:40]
+    write = advice(field, value, lambda unit, amount: f"{unit.call}({said})" if unit.call else f"{amount}")
+    return TypeError(f"{what}: {due(field)}, not the {_kind(value)} {said}{write}")
+
+
+def _finite(value: numbers.Real | Decimal | str) -> bool:
+    if isinstance(value, Decimal):
+        return value.is_finite()
+    return isinstance(value, (str, numbers.Rational)) or math.isfinite(value)
 
 
 def column(what: str, values: object, low: int = LOW, top: int = TOP) -> tuple[int, ...]:
     """The numbers of a list, an array or a Series.
 
-    >>> column("shadow", [500000, 0.0])
+    >>> column("shadow", [500000, 0])
     (500000, 0)
     """
     return tuple(

@@ -6,12 +6,12 @@ from dataclasses import dataclass
 from html import escape
 
 from .records import Curve, Seller, Verdict
-from .shown import Stretch, megawatts, money
+from .shown import Stretch, megawatts, money, near_mw
 from .units import fine_mw
 
 # the size of a chart of curves, and the box that its axes span
 WIDTH, HEIGHT = 440, 290
-LEFT, RIGHT, TOP, BOTTOM = 58, 428, 12, 242
+LEFT, RIGHT, TOP, BOTTOM = 72, 408, 12, 242
 # bars of a constraint
 BAR_WIDTH, BAR_HEIGHT = 560, 24
 
@@ -82,7 +82,7 @@ def curve_chart(curves: Curves, cut: list[tuple[Stretch, int]], label: str) -> s
 
 
 def _axes(scale: Scale) -> list[str]:
-    across = [(scale.x(q), megawatts(q)) for q in ticks(scale.low, scale.high, 7)]
+    across = [(scale.x(q), megawatts(q)) for q in ticks(scale.low, scale.high, 6)]
     up = [(scale.y(p), money(p).replace(".00", "")) for p in ticks(scale.bottom, scale.top, 7)]
     return [
         *(f'<path class="grid" d="M{LEFT} {y}H{RIGHT}"/><text class="up" x="{LEFT - 6}" y="{y}">{text}</text>' for y, text in up),
@@ -121,7 +121,7 @@ def verdict_chart(verdict: Verdict, sellers: list[Seller], label: str) -> str:
     return "".join(
         (
             f'<svg class="bars" viewBox="0 0 {BAR_WIDTH} {5 * BAR_HEIGHT // 2}" role="img" aria-label="{escape(label)}">',
-            _bar("demand", 0, verdict.demand, whole, 0, f"demand: {fine_mw(verdict.demand)}"),
+            _bar("demand", (0, verdict.demand), whole, 0, "demand"),
             *_supply(pieces, whole),
             f'<path class="mark" d="M{mark} 0V{5 * BAR_HEIGHT // 2}"/>',
             "</svg>",
@@ -132,15 +132,17 @@ def verdict_chart(verdict: Verdict, sellers: list[Seller], label: str) -> str:
 def _supply(pieces: list[tuple[str, int, str]], whole: int) -> list[str]:
     bars, at = [], 0
     for kind, amount, name in pieces:
-        bars.append(_bar(kind, at, amount, whole, 5 * BAR_HEIGHT // 4, f"{name}: {fine_mw(amount)}"))
+        bars.append(_bar(kind, (at, amount), whole, 5 * BAR_HEIGHT // 4, name))
         at += amount
     return bars
 
 
-def _bar(kind: str, at: int, amount: int, whole: int, top: int, text: str) -> str:
-    """A piece of a bar, with its text inside where that has room."""
+def _bar(kind: str, place: tuple[int, int], whole: int, top: int, name: str) -> str:
+    """A piece of a bar from a place on, with its amount, rounded, inside where that has room; a pointer shows it exactly."""
+    at, amount = place
+    text = f"{name}: {near_mw(amount)}"
     left, width = BAR_WIDTH * at / whole, BAR_WIDTH * amount / whole
-    box = f'<rect class="{kind}" x="{_place(left)}" y="{top}" width="{_place(width)}" height="{BAR_HEIGHT}"><title>{text}</title></rect>'
+    box = f'<rect class="{kind}" x="{_place(left)}" y="{top}" width="{_place(width)}" height="{BAR_HEIGHT}"><title>{name}: {fine_mw(amount)}</title></rect>'
     if width < 6.6 * len(text) + 8:
         return box
     return box + f'<text class="on-{kind}" x="{_place(left + 6)}" y="{top + BAR_HEIGHT // 2}">{text}</text>'

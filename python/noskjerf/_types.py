@@ -17,8 +17,8 @@ class Frame(Protocol):
 
 Record = TypeVar("Record")
 
-# a whole number, also as 3.0 or as a number of numpy
-Number = Union[SupportsIndex, float]
+# a whole number, also one of numpy
+Number = SupportsIndex
 Column = Iterable[Number]
 # records, rows of numbers, a mapping of columns, or a DataFrame
 Table = Union[Iterable[Union[Record, Column]], Mapping[str, Column], Frame]

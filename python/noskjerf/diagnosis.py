@@ -1,4 +1,5 @@
-"""Which value a text is refused for. The engine tells a number and a part; here it is asked about each value of that part by itself."""
+"""Which value a text is refused for. The engine tells a number and a part; here it is asked about each value of that part by itself. What is
+wrong with a line that isn't of the form (17) is told by form.py."""
 
 from __future__ import annotations
 
@@ -12,7 +13,7 @@ from .parts import Names, Parts, read, write
 from .records import Charges, Costs, Curve, Factor, Interval, Opening, Point, Resource, Step
 from .refusal import Refusal
 from .text import as_bytes, run
-from .units import count, dollars, factor, mw
+from .units import count, factor, in_dollars, in_mw
 
 GOOD_COSTS = Costs((Point(0, 1), Point(1_000_000, 1)))
 GOOD = Resource(0, Curve(0, (Step(1, 0),)), GOOD_COSTS)
@@ -32,16 +33,19 @@ CHARGES = {
 
 @dataclass(frozen=True)
 class Fault:
-    """A value that the engine refuses: what it is, the value as it stands and in words, why, and its line."""
+    """A value that the engine refuses: what it is, the value as it stands and in words, why, and its line. Of a line that isn't of the form,
+    what is wrong, what was due and the column."""
 
     what: str
     value: int | None
     shown: str
     why: str
     line: int | None
+    column: int | None = None
 
     def __str__(self) -> str:
-        where = "" if self.line is None else f"line {self.line}: "
+        column = "" if self.column is None else f", column {self.column}"
+        where = "" if self.line is None else f"line {self.line}{column}: "
         stands = "" if self.value is None else f", {self.value}" if self.shown == str(self.value) else f", {self.value} ({self.shown})"
         return f"{where}{self.what}{stands}: {self.why}"
 
@@ -54,6 +58,14 @@ class Diagnosis:
     resource: int | None
     faults: tuple[Fault, ...]
 
+    def details(self, most: int | None = None) -> tuple[str, ...]:
+        """Lines for a person, below the refusal: what is wrong with the line that isn't of the form, or the values refused, at most so many."""
+        slip = None if self.refusal is None else self.refusal.slip
+        if slip is not None:
+            return slip.details()
+        rest = len(self.faults[most:]) if most is not None else 0
+        return (*map(str, self.faults[:most]), *([f"and {rest:,} more"] if rest else []))
+
 
 def diagnose(text: str | bytes) -> Diagnosis:
     """Finds the values that a text is refused for.
@@ -65,15 +77,26 @@ def diagnose(text: str | bytes) -> Diagnosis:
     try:
         parts = read(data)
     except Refusal as unread:
-        return Diagnosis(unread, None, tuple(_form(data, unread)))
+        return Diagnosis(unread, None, tuple(_form(unread)))
     refusal, lines = parts.refusal, Lines(data)
     if refusal is None:
         return Diagnosis(None, None, ())
     resource = refused_resource(parts) if refusal.number in (*range(1, 9), 11) else None
-    return Diagnosis(refusal, resource, tuple(_faults(data, parts, refusal, resource, lines)))
+    return Diagnosis(refusal, resource, tuple(_faults(parts, refusal, resource, lines)))
 
 
-def _faults(data: bytes, parts: Parts, refusal: Refusal, resource: int | None, lines: Lines) -> Iterator[Fault]:
+def faults_of(refusal: Refusal) -> tuple[Fault, ...]:
+    """What is at fault in a refused text; nothing is known of a call, or of a text that is too long."""
+    return () if refusal.text is None else diagnose(refusal.text).faults
+
+
+def said(refusal: Refusal, most: int = 3) -> str:
+    """A refusal, and below it, further in, what is wrong with its line, or the values at fault, at most so many, each with its line."""
+    details = () if refusal.text is None else diagnose(refusal.text).details(most)
+    return "\n  ".join((refusal.headline, *details))
+
+
+def _faults(parts: Parts, refusal: Refusal, resource: int | None, lines: Lines) -> Iterator[Fault]:
     if resource is not None:
         return OF_RESOURCE[refusal.number](parts.opening, resource, lines)
     if refusal.number in (9, 10):
@@ -81,7 +104,7 @@ def _faults(data: bytes, parts: Parts, refusal: Refusal, resource: int | None, l
     if 13 <= refusal.number <= 16:
         number = len(parts.intervals)
         return OF_INTERVAL[refusal.number](parts, parts.intervals[-1], lines.interval(number))
-    return _form(data, refusal)
+    return _form(refusal)
 
 
 class Lines:
@@ -167,7 +190,7 @@ def _edges(opening: Opening, r: int, lines: Lines) -> Iterator[Fault]:
     for i, outside in _in_turn(edges, _edge_stands, lambda before, edge: _bid(1, before, ((edge, 0),)) == 0):
         what = f"end of step {i} of the bid of resource {r}" if i else f"start of the bid of resource {r}"
         line = lines.within(tables.STEPS, r, i - 1) if i else lines.of(tables.STARTS, r)
-        yield Fault(what, edges[i], mw(edges[i]), QUANTITIES if outside else "not above the edge before it", line)
+        yield Fault(what, edges[i], in_mw(edges[i]), QUANTITIES if outside else "not above the edge before it", line)
 
 
 def _edge_stands(edge: int) -> bool:
@@ -183,7 +206,7 @@ def _prices(opening: Opening, r: int, lines: Lines) -> Iterator[Fault]:
     )
     for i, outside in found:
         why = f"outside the range of bid prices in month {month}" if outside else "below the price of the step before it"
-        yield Fault(f"price of step {i + 1} of the bid of resource {r}", prices[i], dollars(prices[i]), why, lines.within(tables.STEPS, r, i))
+        yield Fault(f"price of step {i + 1} of the bid of resource {r}", prices[i], in_dollars(prices[i]), why, lines.within(tables.STEPS, r, i))
 
 
 def _reach(opening: Opening, r: int, lines: Lines) -> Iterator[Fault]:
@@ -193,12 +216,12 @@ def _reach(opening: Opening, r: int, lines: Lines) -> Iterator[Fault]:
     assert isinstance(costs, Costs)
     default = default_curve(costs.points, costs.charges)
     low, high, price, last = default.start, default.steps[-1].end, curve.steps[0].price, curve.steps[-1].end
-    reaches = f"the default energy bid reaches from {mw(low)} to {mw(high)}"
+    reaches = f"the default energy bid reaches from {in_mw(low)} to {in_mw(high)}"
     if _refused_reach(opening, resource, Curve(curve.start, (Step(high, price),))):
-        yield Fault(f"start of the bid of resource {r}", curve.start, mw(curve.start), reaches, lines.of(tables.STARTS, r))
+        yield Fault(f"start of the bid of resource {r}", curve.start, in_mw(curve.start), reaches, lines.of(tables.STARTS, r))
     if _refused_reach(opening, resource, Curve(low, (Step(last, price),))):
         line = lines.within(tables.STEPS, r, len(curve.steps) - 1)
-        yield Fault(f"end of step {len(curve.steps)} of the bid of resource {r}", last, mw(last), reaches, line)
+        yield Fault(f"end of step {len(curve.steps)} of the bid of resource {r}", last, in_mw(last), reaches, line)
 
 
 def _refused_reach(opening: Opening, resource: Resource, curve: Curve) -> bool:
@@ -222,7 +245,7 @@ def _quantities(opening: Opening, r: int, lines: Lines) -> Iterator[Fault]:
     quantities = [point.mw for point in _costs_of(opening, r).points]
     for i, outside in _in_turn(quantities, _quantity_stands, lambda before, after: _costs(((before, 1), (after, 1))) == 0):
         why = QUANTITIES if outside else "not above the quantity before it"
-        yield Fault(f"mw of cost point {i + 1} of resource {r}", quantities[i], mw(quantities[i]), why, lines.within(tables.POINTS, r, i))
+        yield Fault(f"mw of cost point {i + 1} of resource {r}", quantities[i], in_mw(quantities[i]), why, lines.within(tables.POINTS, r, i))
 
 
 def _quantity_stands(quantity: int) -> bool:
@@ -241,7 +264,7 @@ def _charges(opening: Opening, r: int, lines: Lines) -> Iterator[Fault]:
     for name, (what, per, why) in CHARGES.items():
         value = getattr(charges, name)
         if _costs(((0, 1), (1, 1)), Charges(**{name: value})):
-            shown = f"{factor(value)} tonne/MMBtu" if name == "rate" else dollars(value, per)
+            shown = f"{factor(value)} tonne/MMBtu" if name == "rate" else in_dollars(value, per)
             yield Fault(f"{name} ({what}) of resource {r}", value, shown, why, lines.of(tables.CHARGES, r))
 
 
@@ -252,7 +275,7 @@ def _rates(opening: Opening, r: int, lines: Lines) -> Iterator[Fault]:
         level = tuple((p.mw, points[i].heat if j <= i else points[i + 1].heat) for j, p in enumerate(points))
         if _costs(level) == 8:
             what = f"incremental heat rate between cost points {i + 1} and {i + 2} of resource {r}"
-            ends = " and ".join(f"{mw(p.mw)} at {p.heat:,} Btu/kWh" for p in points[i : i + 2])
+            ends = " and ".join(f"{in_mw(p.mw)} at {p.heat:,} Btu/kWh" for p in points[i : i + 2])
             yield Fault(what, None, "", f"outside -100,000 to 100,000 Btu/kWh, between {ends}", lines.within(tables.POINTS, r, i + 1))
 
 
@@ -305,14 +328,14 @@ def _constraint_count(parts: Parts, interval: Interval, lines: Lines) -> Iterato
 def _limits(parts: Parts, interval: Interval, lines: Lines) -> Iterator[Fault]:
     for c, price in enumerate(interval.shadow):
         if _interval(replace(QUIET, shadow=(price,))):
-            yield Fault(f"shadow price of constraint {c}", price, dollars(price), "outside $0 to $10,000/MWh", lines.of(tables.SHADOW, c))
+            yield Fault(f"shadow price of constraint {c}", price, in_dollars(price), "outside $0 to $10,000/MWh", lines.of(tables.SHADOW, c))
     for r, price in enumerate(interval.lmp):
         if _interval(replace(QUIET, lmp=(price,))):
-            yield Fault(f"lmp of resource {r}", price, dollars(price), "outside -$10,000 to $10,000/MWh", lines.of(tables.DISPATCH, r))
+            yield Fault(f"lmp of resource {r}", price, in_dollars(price), "outside -$10,000 to $10,000/MWh", lines.of(tables.DISPATCH, r))
     yield from _factors(interval, lines)
     parameter = interval.parameter
     if parameter is not None and _interval(replace(QUIET, parameter=parameter)):
-        yield Fault("parameter", parameter, dollars(parameter), "outside $0 to $0.01/MWh", lines.of(tables.PARAMETER))
+        yield Fault("parameter", parameter, in_dollars(parameter), "outside $0 to $0.01/MWh", lines.of(tables.PARAMETER))
 
 
 def _factors(interval: Interval, lines: Lines) -> Iterator[Fault]:
@@ -326,29 +349,22 @@ def _outputs(parts: Parts, interval: Interval, lines: Lines) -> Iterator[Fault]:
     for r, available in enumerate(interval.available):
         line, stands = lines.of(tables.DISPATCH, r), not _interval(replace(QUIET, available=(available,)))
         if not stands:
-            yield Fault(f"available of resource {r}", available, mw(available), QUANTITIES, line)
+            yield Fault(f"available of resource {r}", available, in_mw(available), QUANTITIES, line)
         most = available if stands else 1_000_000
         for name in ("dispatch", "floor"):
             value = getattr(interval, name)[r]
             if _interval(replace(QUIET, **{"available": (most,), name: (value,)})):
-                yield Fault(f"{name} of resource {r}", value, mw(value), f"outside 0 to {mw(most)}, what is available", line)
+                yield Fault(f"{name} of resource {r}", value, in_mw(value), f"outside 0 to {in_mw(most)}, what is available", line)
 
 
 # ---- 12, 17 and 18: the text
-def _form(data: bytes, refusal: Refusal) -> Iterator[Fault]:
+def _form(refusal: Refusal) -> Iterator[Fault]:
+    slip = refusal.slip
     if refusal.number == 18:
         yield Fault("length of the text", None, "", "more than 65,536 bytes", None)
-    elif refusal.number == 17 and refusal.line is not None:
-        yield Fault(f"the text has {_at(data, refusal.line)}", None, "", "not of the form that is due there", refusal.line)
-
-
-def _at(data: bytes, line: int) -> str:
-    """What stands on a line, for a person."""
-    lines = data.split(b"\n")
-    if line > len(lines) or (line == len(lines) and not lines[-1]):
-        return "its end there"
-    stands = lines[line - 1][:60]
-    return f"{stands.decode('utf-8', 'backslashreplace')!r}{' ..' if len(lines[line - 1]) > 60 else ''}{', not closed' if line == len(lines) else ''}"
+    elif slip is not None:
+        due = f"due: {' or '.join(slip.due)}" if slip.due else "not of the form that is due there"
+        yield Fault(slip.cause or f"the text has {slip.picture()[0]!r}", None, "", due, slip.line, slip.column)
 
 
 OF_RESOURCE: dict[int, Callable[[Opening, int, Lines], Iterator[Fault]]] = {

@@ -5,6 +5,7 @@ from __future__ import annotations
 from collections.abc import Iterable
 from typing import Any
 
+from ._advice import bringing
 from .records import Output
 
 VERDICTS = ("interval", "constraint", "verdict", "demand", "left")
@@ -30,6 +31,6 @@ def frame(names: tuple[str, ...], lines: Iterable[tuple[Any, ...]], numbers: int
     try:
         import pandas
     except ImportError as error:
-        raise ImportError("a table needs pandas: apt-get install python3-pandas") from error
+        raise ImportError(f"a table needs pandas: {bringing('pandas')}") from error
     table = pandas.DataFrame(list(lines), columns=list(names))
     return table.astype({name: "int64" for name in names[:numbers]})

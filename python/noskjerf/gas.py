@@ -24,10 +24,18 @@ class Market(enum.IntEnum):
 
 @dataclass(frozen=True)
 class Entry:
-    """A published price, in 0.0001 dollar per MMBtu, and its day."""
+    """A published price, in 0.0001 dollar per MMBtu, and its day; both have 32 bits."""
 
     day: int
     price: int
+
+    if TYPE_CHECKING:
+
+        def __init__(self, day: Number, price: Number) -> None: ...
+
+    def __post_init__(self) -> None:
+        for name in ("day", "price"):
+            object.__setattr__(self, name, whole(name, getattr(self, name), 0, TOP_U32))
 
 
 @dataclass(frozen=True)
@@ -55,6 +63,10 @@ class Book:
         for name in ("day_ahead", "real_time"):
             entries = rows(name, ("day", "price"), getattr(self, name), 0, TOP_U32)
             object.__setattr__(self, name, tuple(Entry(*entry) for entry in entries))
+
+    def __getstate__(self) -> dict[str, Any]:
+        """What a copy or a pickle keeps: the lists, and not what is lent to the engine."""
+        return {"day_ahead": self.day_ahead, "real_time": self.real_time}
 
     def run(self, market: Market, day: Number) -> tuple[Entry, ...]:
         """The run of entries up to a trading day, that day included: the front of the market's list. Raises Refusal 21.

@@ -2,6 +2,7 @@
 
 from __future__ import annotations
 
+import copy
 import ctypes
 import threading
 from collections.abc import Sequence
@@ -13,6 +14,7 @@ from ._types import Number
 from .judgement import filled
 from .records import OUTPUTS, Cause, Costs, Curve, Finding, Interval, Judged, Opening, Resource, Seller, Verdict
 from .refusal import Refusal
+from .units import count
 
 MAX_RESOURCES = 64
 MAX_CONSTRAINTS = 32
@@ -32,7 +34,8 @@ class Hour:
     """A trading hour that was opened, and what it has taken so far.
 
     A cut made in one interval carries on to the next. A refused call raises its Refusal and leaves the hour as it was. Threads may share
-    an hour: one call is made after the other.
+    an hour: one call is made after the other. A copy (`hour.copy()`, `copy.copy`, `copy.deepcopy`) and what comes of a pickle are hours of
+    their own; two hours are equal where all that they keep is.
 
     Case T, with a default energy bid from costs; a Curve in place of the Costs is a pack.
 
@@ -42,11 +45,13 @@ class Hour:
     >>> hour = Hour.open(Opening(month=25, sellers=[1], resources=[Resource(portfolio=0, bid=bid, default=costs)]))
     >>> interval = Interval([500000], lmp=[600000], dispatch=[20000], available=[30000], floor=[0], factors=[(0, 0, -500000)], parameter=100)
     >>> hour.why(interval)
-    (Cause(resource=0, cut=True, component=250000000000, competitive_price=350000, floor_price=350100),)
+    (Cause(resource=0, capped=True, component=250000000000, competitive_price=350000, floor_price=350100),)
     >>> hour.interval(interval).verdicts[0].finding.name
     'NON_COMPETITIVE'
     >>> [(step.end, step.price) for step in hour.curve(0).steps]
     [(15000, 300000), (20000, 378402), (24000, 444403), (30000, 488402)]
+    >>> hour
+    <Hour of 1 resource: 1 interval accepted, 0 passes since>
     >>> hour.bid(0)
     Traceback (most recent call last):
     noskjerf.refusal.Refusal: hour: fewer than four intervals are accepted (refusal 20)
@@ -80,7 +85,7 @@ class Hour:
             return self._judged("noskjerf_pass", asked, "pass")
 
     def why(self, interval: Interval) -> tuple[Cause, ...]:
-        """Why an interval would cut each resource, or not; the hour stays as it is. Raises Refusal 13 to 16."""
+        """Whether an interval would cap the bid of each resource, and why; the hour stays as it is. Raises Refusal 13 to 16."""
         asked = _asked(interval)
         causes = (ctypes.c_int64 * (MAX_RESOURCES * CAUSE))()
         with self._lock:
@@ -121,12 +126,48 @@ class Hour:
 
     def copy(self) -> Hour:
         """An hour of its own that stands where this one does."""
-        other = object.__new__(Hour)
-        other._lock = threading.Lock()
-        other._resources = self._resources
-        with self._lock:
-            other._state = type(self._state).from_buffer_copy(self._state)
+        return copy.copy(self)
+
+    def __copy__(self) -> Hour:
+        other = type(self).__new__(type(self))
+        other.__setstate__(self.__getstate__())
         return other
+
+    def __deepcopy__(self, memo: dict[int, Any]) -> Hour:
+        other = memo[id(self)] = type(self).__new__(type(self))
+        other.__setstate__(copy.deepcopy(self.__getstate__(), memo))
+        return other
+
+    def __getstate__(self) -> dict[str, Any]:
+        """What a copy or a pickle keeps: the cells as numbers, and no lock."""
+        kept = {name: value for name, value in self.__dict__.items() if name != "_lock"}
+        return {**kept, "_state": self._cells()}
+
+    def __setstate__(self, kept: dict[str, Any]) -> None:
+        room = call("noskjerf_state_room")
+        if len(kept["_state"]) != room:
+            raise ValueError(f"the hour has {len(kept['_state'])} cells, and this version of noskjerf keeps {room}")
+        self.__dict__.update(kept)
+        self._lock = threading.Lock()
+        self._state = (ctypes.c_int64 * room)(*kept["_state"])
+
+    def __eq__(self, other: object) -> bool:
+        if not isinstance(other, Hour):
+            return NotImplemented
+        return self._cells() == other._cells()
+
+    # an hour changes, so that it is no key
+    __hash__ = None  # type: ignore[assignment]
+
+    def __repr__(self) -> str:
+        kept = self._cells()
+        passes = "1 pass" if kept[PASSES] == 1 else f"{kept[PASSES]} passes"
+        return f"<{type(self).__name__} of {count(self._resources, 'resource')}: {count(kept[ACCEPTED], 'interval')} accepted, {passes} since>"
+
+    def _cells(self) -> tuple[int, ...]:
+        """All that the hour keeps, as it stands between two calls."""
+        with self._lock:
+            return tuple(self._state)
 
     def _lent(self) -> tuple[Any, int]:
         return self._state, len(self._state)
@@ -191,11 +232,12 @@ def _asked(interval: Interval) -> tuple[Any, ...]:
 
 
 def _sellers(constraint: int, row: Sequence[int]) -> list[Seller]:
-    """The sellers that a verdict names: bit p of its fourth number stands for portfolio p."""
+    """The sellers that a verdict names, by weight: bit p of its fourth number stands for portfolio p."""
     named, withheld = row[3], row[4:]
-    return [Seller(constraint, p, amount) for p, amount in enumerate(withheld) if named >> p & 1]
+    sellers = [Seller(constraint, p, amount) for p, amount in enumerate(withheld) if named >> p & 1]
+    return sorted(sellers, key=lambda seller: (-seller.withheld, seller.portfolio))
 
 
 def _cause(resource: int, row: Sequence[int]) -> Cause:
-    cut, component, competitive_price, floor_price = row
-    return Cause(resource, cut != 0, component, competitive_price, floor_price)
+    capped, component, competitive_price, floor_price = row
+    return Cause(resource, capped != 0, component, competitive_price, floor_price)

@@ -46,12 +46,15 @@ def read(text: str | bytes) -> Parts:
 
     >>> read("month\\n")
     Traceback (most recent call last):
-    noskjerf.refusal.Refusal: opening, line 2: the line is not of the form that is due there (refusal 17)
+    noskjerf.refusal.Refusal: opening, line 2, column 1: the text ends here (refusal 17)
+      (the end of the text)
+      ^
+      due: <month>
     """
     output = run(text)
     refusal = output.refusal
     if refusal is not None and refusal.number in (17, 18) and refusal.part in ("opening", "text"):
-        raise Refusal(refusal.number, refusal.part, refusal.line)
+        raise refusal.again()
     opening, *intervals = _pieces(_of_the_form(as_bytes(text), refusal))
     refused = 1 if refusal is not None and 12 <= refusal.number <= 16 else 0
     count = len(output.pages) + refused

@@ -1,7 +1,7 @@
 """What the engine takes and what it answers, as frozen dataclasses.
 
 Quantities are hundredths of a MW, prices 0.0001 dollar per MWh, heat rates Btu/kWh, shift factors millionths; demand, left and withheld
-are in hundred-millionths of a MW.
+are in hundred-millionths of a MW. `mw` and `dollars` give such numbers; one with a decimal point is an error.
 """
 
 from __future__ import annotations
@@ -11,8 +11,9 @@ from collections.abc import Iterable
 from dataclasses import astuple, dataclass
 from typing import TYPE_CHECKING, Any
 
-from ._numbers import LOW, TOP, column, items, of_kind, rows, same_length, whole
+from ._numbers import column, items, of_kind, rows, same_length, whole
 from ._types import Column, Number, Table
+from .amounts import LOW, TOP
 from .refusal import Refusal
 
 
@@ -51,6 +52,9 @@ class Curve:
 
     >>> Curve(10000, [(15000, 300000), (30000, 900000)])
     Curve(start=10000, steps=(Step(end=15000, price=300000), Step(end=30000, price=900000)))
+    >>> from noskjerf import dollars, mw
+    >>> Curve(mw(100), [(mw(150), dollars(30)), (mw(300), dollars(90))]) == Curve(10000, [(15000, 300000), (30000, 900000)])
+    True
     """
 
     start: int
@@ -198,7 +202,7 @@ class Interval:
     Every list may be a tuple, a list, an array or a Series, and the factors rows or a table with the columns resource, constraint and
     factor. A parameter that is None is missing and means 0.
 
-    >>> Interval(shadow=[500000], lmp=[600000], dispatch=[20000], available=[30000.0], floor=[0], factors=[(0, 0, -500000)]).factors
+    >>> Interval(shadow=[500000], lmp=[600000], dispatch=[20000], available=[30000], floor=[0], factors=[(0, 0, -500000)]).factors
     (Factor(resource=0, constraint=0, factor=-500000),)
     """
 
@@ -309,10 +313,14 @@ class Output:
         >>> from noskjerf import run
         >>> run("month\\n025\\n").accepted()
         Traceback (most recent call last):
-        noskjerf.refusal.Refusal: opening, line 2: the line is not of the form that is due there (refusal 17)
+        noskjerf.refusal.Refusal: opening, line 2, column 1: a leading zero in month, 025 (refusal 17)
+          025
+          ^
+          due: <month>
+          mend: write 25
         """
         if self.refusal is not None:
-            raise Refusal(self.refusal.number, self.refusal.part, self.refusal.line)
+            raise self.refusal.again()
         return self.pages
 
     def to_frames(self) -> dict[str, Any]:
@@ -324,7 +332,8 @@ class Output:
 
 @dataclass(frozen=True)
 class Judged:
-    """What an interval or a pass of an hour in numbers finds. Sellers rise by constraint, and within one by portfolio."""
+    """What an interval or a pass of an hour in numbers finds. Sellers rise by constraint; within one the larger withheld amount comes
+    first, equal ones by lower portfolio number."""
 
     verdicts: tuple[Verdict, ...]
     sellers: tuple[Seller, ...]
@@ -332,11 +341,13 @@ class Judged:
 
 @dataclass(frozen=True)
 class Cause:
-    """Why an interval cuts a resource, or doesn't: whether it is cut, the component of its locational price that the non-competitive
-    constraints make, the competitive price, and the floor price, which is 0 where it isn't cut."""
+    """Whether an interval caps a resource's bid, and why: whether a cap applies, the component of its locational price that the
+    non-competitive constraints make, the competitive price, and the floor price, which is 0 where no cap applies.
+
+    A cap may lie above the price that it caps, which then stays: whether a bid is cut is seen by its curve before and after."""
 
     resource: int
-    cut: bool
+    capped: bool
     component: int
     competitive_price: int
     floor_price: int

@@ -6,6 +6,10 @@ import functools
 import re
 from dataclasses import dataclass
 from pathlib import Path
+from typing import TYPE_CHECKING
+
+if TYPE_CHECKING:
+    from .form import Slip
 
 SENTENCES = {
     1: "a bid has no step, or more than 10 (a pack's curve 11)",
@@ -37,26 +41,56 @@ class Refusal(Exception):
 
     `part` is what was refused: of a text "opening" or "interval 1" and so on, "text" where it is too long (18); of a call "bid",
     "costs", "book", "opening", "interval 1" and so on, "pass" or "hour". `line` is the line of the text, from 1 on, and None for a call.
-    For 17 it is the faulty line, or the one after the last where the text ends early; else the last line of the part.
+    For 17 it is the faulty line, or the one after the last where the text ends early; else the last line of the part. `text` is the
+    refused text, where it isn't too long; two refusals are the same whatever their texts.
 
     >>> print(Refusal(15, "interval 1", 23))
     interval 1, line 23: a shadow price, locational price, parameter or shift factor is outside its limits (refusal 15)
+    >>> print(Refusal(17, "opening", 2, b"month\\n025\\n"))
+    opening, line 2, column 1: a leading zero in month, 025 (refusal 17)
+      025
+      ^
+      due: <month>
+      mend: write 25
     """
 
-    def __init__(self, number: int, part: str, line: int | None = None) -> None:
+    def __init__(self, number: int, part: str, line: int | None = None, text: bytes | None = None) -> None:
         super().__init__(number, part, line)
         self.number = number
         self.part = part
         self.line = line
+        self.text = None if number == 18 else text
+
+    @functools.cached_property
+    def slip(self) -> Slip | None:
+        """What is wrong with the line that isn't of the form, and what was due there; None for another refusal than 17 of a text."""
+        if self.number != 17 or self.text is None or self.line is None:
+            return None
+        # it asks the engine, which answers with refusals
+        from .form import slip
+
+        return slip(self.text, self.line)
 
     @property
     def sentence(self) -> str:
         """The reason alone, as a sentence for a person."""
-        return SENTENCES.get(self.number, "no such refusal is known")
+        known = SENTENCES.get(self.number, "no such refusal is known")
+        return known if self.slip is None else self.slip.cause or known
+
+    @property
+    def headline(self) -> str:
+        """All that is known, on one line."""
+        line = "" if self.line is None else f", line {self.line}"
+        column = "" if self.slip is None or self.slip.column is None else f", column {self.slip.column}"
+        return f"{self.part}{line}{column}: {self.sentence} (refusal {self.number})"
 
     def __str__(self) -> str:
-        where = self.part if self.line is None else f"{self.part}, line {self.line}"
-        return f"{where}: {self.sentence} (refusal {self.number})"
+        details = () if self.slip is None else self.slip.details()
+        return "\n  ".join((self.headline, *details))
+
+    def again(self) -> Refusal:
+        """The same refusal, to be raised once more."""
+        return Refusal(self.number, self.part, self.line, self.text)
 
     def __eq__(self, other: object) -> bool:
         return isinstance(other, Refusal) and self.args == other.args

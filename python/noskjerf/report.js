@@ -3,9 +3,12 @@
   var slider = document.getElementById("interval");
   var all = document.getElementById("all");
   var only = document.getElementById("only");
+  var unfold = document.getElementById("unfold");
   var told = document.getElementById("told");
   var blocks = document.querySelectorAll(".interval");
   var resources = document.querySelectorAll(".resource");
+  var workings = document.querySelectorAll("details.working");
+  var bar = document.querySelector(".slider");
 
   // an hour with one interval has no slider, and one with a single resource nothing to leave out
   function show() {
@@ -35,10 +38,22 @@
     if (target) { target.scrollIntoView(); }
   }
 
+  // what a link leads to isn't hidden by the bar, however many lines that has
+  function keep_clear() {
+    document.documentElement.style.scrollPaddingTop = bar ? bar.offsetHeight + 12 + "px" : "";
+  }
+
   [slider, all, only].forEach(function (control) {
     if (control) { control.addEventListener("input", show); }
   });
+  if (unfold) {
+    unfold.addEventListener("input", function () {
+      workings.forEach(function (working) { working.open = unfold.checked; });
+    });
+  }
   window.addEventListener("hashchange", follow);
+  window.addEventListener("resize", keep_clear);
   document.documentElement.classList.add("js");
+  keep_clear();
   follow();
 })();

@@ -5,22 +5,23 @@ Nothing here is worked out again: prices are looked up in the engine's curves, a
 
 from __future__ import annotations
 
+from collections.abc import Sequence
 from dataclasses import dataclass
 
 from ._library import LibraryError
 from .hour import Hour
 from .judgement import default_curve
 from .parts import read
-from .records import Cause, Costs, Curve, Finding, Interval, Opening, Page, Resource
+from .records import Cause, Costs, Curve, Interval, Opening, Page, Resource
 from .refusal import Refusal
 from .text import run
-from .units import decimal, dollars
+from .units import count, decimal, in_dollars
 
 
 @dataclass(frozen=True)
 class Taken:
-    """An accepted interval: what was handed in, what the engine printed of it, and why it cuts each resource or doesn't. There are no
-    causes where the library was built without hours in numbers."""
+    """An accepted interval: what was handed in, what the engine printed of it, and whether and why caps apply to each resource. There are
+    no causes where the library was built without hours in numbers."""
 
     number: int
     interval: Interval
@@ -111,8 +112,56 @@ def is_cut(rows: tuple[Stretch, ...], interval: int) -> bool:
     return any(row.mitigated[interval] < row.bid for row in rows)
 
 
+def changes(rows: tuple[Stretch, ...], interval: int) -> bool:
+    """Whether an interval, counted from 0, makes any price lower than it was before it."""
+    return any(row.mitigated[interval] < (row.mitigated[interval - 1] if interval else row.bid) for row in rows)
+
+
+def cut_resources(hour: Account, interval: int) -> list[int]:
+    """The resources whose curve after an interval, counted from 0, is below the bid anywhere."""
+    return [r for r in range(len(hour.resources)) if is_cut(resource_stretches(hour, r), interval)]
+
+
+def answer(hour: Account) -> str:
+    """How many bids are cut, in a line."""
+    refusal = "" if hour.refusal is None else f"Refused at {hour.refusal.part}, line {hour.refusal.line}. "
+    if hour.opening is None:
+        return refusal.strip()
+    if not hour.intervals:
+        return f"{refusal}{'No interval is accepted' if refusal else 'The text has no interval'}, so no bid is cut."
+    found: dict[int, list[str]] = {}
+    for i, taken in enumerate(hour.intervals):
+        found.setdefault(len(cut_resources(hour, i)), []).append(str(taken.number))
+    return f"{refusal}{_cut_line(found, len(hour.resources))}."
+
+
+def _cut_line(found: dict[int, list[str]], bids: int) -> str:
+    """The line of how many bids are cut in which intervals."""
+    several = [number for number in found if number]
+    if not several:
+        return f"No bid is cut in {_intervals(found[0])}"
+    first, *rest = several
+    said = [f"{first} of {count(bids, 'bid')} {'is' if first == 1 else 'are'} cut in {_intervals(found[first])}"]
+    said += [f"{number} in {_intervals(found[number])}" for number in rest]
+    said += [f"none in {_intervals(found[0])}"] if 0 in found else []
+    return ", ".join(said)
+
+
+def _intervals(numbers: list[str]) -> str:
+    return f"interval{'s' if numbers[1:] else ''} {listed(numbers)}"
+
+
+def listed(names: Sequence[str]) -> str:
+    """Names in a row.
+
+    >>> listed(["1"]), listed(["1", "2", "3"])
+    ('1', '1, 2 and 3')
+    """
+    return names[0] if len(names) == 1 else f"{', '.join(names[:-1])} and {names[-1]}"
+
+
 def reason(row: Stretch, interval: int, floors: tuple[int | None, ...]) -> str:
-    """What the price of a stretch after an interval, counted from 0, is. `floors` are the floor prices of the intervals that cut."""
+    """What the price of a stretch after an interval, counted from 0, is. `floors` are the floor prices of the intervals, where a cap applies."""
     price = row.mitigated[interval]
     if price == row.bid:
         return "as bid"
@@ -127,38 +176,19 @@ def reason(row: Stretch, interval: int, floors: tuple[int | None, ...]) -> str:
 
 
 def floor_prices(hour: Account, resource: int) -> tuple[int | None, ...]:
-    """The floor price of a resource in each interval; None where it isn't cut, or where the engine wasn't asked."""
+    """The floor price of a resource in each interval; None where no cap applies, or where the engine wasn't asked."""
     return tuple(_floor(taken, resource) for taken in hour.intervals)
 
 
 def _floor(taken: Taken, resource: int) -> int | None:
-    if taken.causes is None or not taken.causes[resource].cut:
+    if taken.causes is None or not taken.causes[resource].capped:
         return None
     return taken.causes[resource].floor_price
 
 
-@dataclass(frozen=True)
-class Contribution:
-    """What a non-competitive constraint adds to a resource's locational price: minus its shift factor times the shadow price."""
-
-    constraint: int
-    shadow: int
-    factor: int
-    amount: int
-
-
-def contributions(taken: Taken, resource: int) -> tuple[Contribution, ...]:
-    """The component of a resource by constraint, from the interval's own data. It sums up to the engine's component, which the tests
-    compare over all texts."""
-    entering = {verdict.constraint for verdict in taken.page.verdicts if verdict.finding is Finding.NON_COMPETITIVE}
-    factors = [f for f in taken.interval.factors if f.resource == resource and f.constraint in entering]
-    shadow = taken.interval.shadow
-    return tuple(Contribution(f.constraint, shadow[f.constraint], f.factor, -f.factor * shadow[f.constraint]) for f in factors)
-
-
 def money(price: int) -> str:
     """A price in dollars, for a table that has the unit at its head."""
-    return dollars(price, "")
+    return in_dollars(price, "")
 
 
 def megawatts(quantity: int) -> str:
@@ -166,4 +196,43 @@ def megawatts(quantity: int) -> str:
     return decimal(quantity, 2)
 
 
-FINDINGS = {Finding.COMPETITIVE: "competitive", Finding.NON_COMPETITIVE: "non-competitive", Finding.NOT_BINDING: "not binding"}
+def rounded(number: int, places: int, kept: int = 2) -> str:
+    """A number of units of 10 ** -places for people, rounded half up to so many places. One that would read as 0 and isn't keeps its first digit.
+
+    >>> rounded(171_273_401_879, 8), rounded(10_000_000_000, 8), rounded(-5_000, 4), rounded(420, 8)
+    ('1,712.73', '100', '-0.5', '0.000004')
+    """
+    while kept < places and 0 < 2 * abs(number) < 10 ** (places - kept):
+        kept += 1
+    unit = 10 ** max(places - kept, 0)
+    near = (2 * abs(number) + unit) // (2 * unit)
+    return decimal(-near if number < 0 else near, min(kept, places))
+
+
+def places_apart(one: int, other: int, places: int) -> int:
+    """At how many places two numbers read differently when they are rounded, two at least.
+
+    >>> places_apart(10_000_000_000, 10_000_000_001, 8), places_apart(1, 1, 8), places_apart(100, 10_000_000, 8)
+    (8, 2, 2)
+    """
+    return next((kept for kept in range(2, places) if one == other or rounded(one, places, kept) != rounded(other, places, kept)), places)
+
+
+def near_mw(amount: int, kept: int = 2) -> str:
+    """Demand, supply and what is withheld, rounded for people; tables have the exact figures.
+
+    >>> near_mw(171_273_401_879)
+    '1,712.73 MW'
+    """
+    return f"{rounded(amount, 8, kept)} MW"
+
+
+def near_dollars(price: int, places: int = 4) -> str:
+    """A price rounded to the cent for people.
+
+    >>> near_dollars(378_402), near_dollars(-378_451), near_dollars(250_000_000_000, 10)
+    ('$37.84', '-$37.85', '$25.00')
+    """
+    cents = rounded(abs(price), places)
+    whole, _, rest = cents.partition(".")
+    return f"{'-' if price < 0 else ''}${whole}.{rest.ljust(2, '0')}"

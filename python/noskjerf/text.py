@@ -30,22 +30,25 @@ def run(text: str | bytes) -> Output:
     Refusal(17, 'opening', 2)
     """
     text = as_bytes(text)
-    printed, number, line = _told(text)
+    printed, number, line = told(text)
     pages = tuple(_pages(printed))
-    refusal = Refusal(number, _part(text, number, line, len(pages)), line) if number else None
+    refusal = Refusal(number, _part(text, number, line, len(pages)), line, text) if number else None
     return Output(printed, pages, refusal)
 
 
 def as_bytes(text: str | bytes) -> bytes:
-    """The bytes of a text, which may be str (as UTF-8), bytes, bytearray or memoryview."""
+    """The bytes of a text, which may be str (as UTF-8), bytes, bytearray or memoryview. A class made of these can't say that it has
+    more bytes than it has: they are taken from the object itself."""
+    if type(text) is bytes:
+        return text
     if isinstance(text, str):
-        return text.encode()
+        return str.encode(text)
     if isinstance(text, (bytes, bytearray, memoryview)):
-        return bytes(text)
+        return bytes(memoryview(text))
     raise TypeError(f"text: str or bytes are due, not {'None' if text is None else type(text).__name__}")
 
 
-def _told(text: bytes) -> tuple[bytes, int, int]:
+def told(text: bytes) -> tuple[bytes, int, int]:
     """What a text prints, and the number and line of its refusal, 0 and 0 where nothing is refused."""
     room = call("noskjerf_room")
     page = (ctypes.c_uint8 * room)()
@@ -70,7 +73,7 @@ def _opened(text: bytes, line: int) -> bool:
     before = text.split(b"\n")[: line - 1]
     if b"constraint shadow" in before:
         before = before[: before.index(b"constraint shadow")]
-    return _told(b"".join(each + b"\n" for each in before))[1] == 0
+    return told(b"".join(each + b"\n" for each in before))[1] == 0
 
 
 def _pages(printed: bytes) -> Iterator[Page]:

@@ -1,4 +1,4 @@
-"""The engine's whole numbers in dollars and megawatts, exactly."""
+"""The engine's whole numbers shown in dollars and megawatts, exactly; `amounts` has the way in."""
 
 from __future__ import annotations
 
@@ -15,10 +15,10 @@ def decimal(number: int, places: int, least: int = 0) -> str:
     return f"{'-' if number < 0 else ''}{int(whole):,}{'.' if rest else ''}{rest}"
 
 
-def mw(quantity: int) -> str:
+def in_mw(quantity: int) -> str:
     """A quantity, in hundredths of a MW.
 
-    >>> mw(15050)
+    >>> in_mw(15050)
     '150.5 MW'
     """
     return f"{decimal(quantity, 2)} MW"
@@ -33,10 +33,10 @@ def fine_mw(quantity: int) -> str:
     return f"{decimal(quantity, 8)} MW"
 
 
-def dollars(price: int, per: str = "/MWh") -> str:
+def in_dollars(price: int, per: str = "/MWh") -> str:
     """A price, in 0.0001 dollar.
 
-    >>> dollars(378402), dollars(-5000)
+    >>> in_dollars(378402), in_dollars(-5000)
     ('$37.8402/MWh', '-$0.50/MWh')
     """
     return f"{'-' if price < 0 else ''}${decimal(abs(price), 4, 2)}{per}"

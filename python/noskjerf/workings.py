@@ -112,7 +112,7 @@ class Term:
 
 @dataclass(frozen=True)
 class Piece:
-    """A stretch of a bid: its price before the interval, its default price, its cap where the resource is cut, and its price after."""
+    """A stretch of a bid: its price before the interval, its default price, its cap where one applies, and its price after."""
 
     start: int
     end: int
@@ -124,7 +124,7 @@ class Piece:
 
 @dataclass(frozen=True)
 class Effect:
-    """What an interval does to a resource, and why."""
+    """What an interval does to a resource, and why: whether a cap applies, and whether it cuts, which it does where it is below a price."""
 
     resource: int
     lmp: int
@@ -133,6 +133,7 @@ class Effect:
     component: int
     competitive_price: int
     floor_price: int | None
+    capped: bool
     cut: bool
     pieces: tuple[Piece, ...]
 
@@ -350,14 +351,14 @@ def _effect(
     curves: tuple[Curve, Curve],
     differs: Differences,
 ) -> Effect:
-    r, floor_price = cause.resource, cause.floor_price if cause.cut else None
+    r, floor_price = cause.resource, cause.floor_price if cause.capped else None
     terms = tuple(_terms(interval, constraints, r))
     where = f"interval {number}, resource {r}"
     _compare_cause(where, interval, cause, terms, differs)
     pieces = tuple(_pieces(where, resource, curves, floor_price, differs))
-    return Effect(
-        r, interval.lmp[r], interval.dispatch[r], terms, cause.component, cause.competitive_price, floor_price, cause.cut, pieces
-    )
+    cut = any(piece.after < piece.before for piece in pieces)
+    prices = (cause.component, cause.competitive_price, floor_price)
+    return Effect(r, interval.lmp[r], interval.dispatch[r], terms, *prices, cause.capped, cut, pieces)
 
 
 def _terms(interval: Interval, constraints: Iterable[ConstraintWorking], r: int) -> Iterator[Term]:
@@ -371,11 +372,11 @@ def _terms(interval: Interval, constraints: Iterable[ConstraintWorking], r: int)
 def _compare_cause(where: str, interval: Interval, cause: Cause, terms: Sequence[Term], differs: Differences) -> None:
     component = sum(term.term for term in terms)
     price = up(interval.lmp[cause.resource] * 1_000_000 - component, 1_000_000)
-    cut = interval.dispatch[cause.resource] > 0 and component > 0
+    capped = interval.dispatch[cause.resource] > 0 and component > 0
     differs.compare(f"{where}: component", component, cause.component)
     differs.compare(f"{where}: competitive price", price, cause.competitive_price)
-    differs.compare(f"{where}: cut", cut, cause.cut)
-    if cause.cut:
+    differs.compare(f"{where}: a cap applies", capped, cause.capped)
+    if cause.capped:
         differs.compare(f"{where}: floor price", price + (interval.parameter or 0), cause.floor_price)
 
 

@@ -50,3 +50,11 @@ def differing(diff: list[str]) -> list[tuple[str, bool]]:
         if mark == " ":
             lines.append((rest, False))
     return [*lines, *((line, False) for line in case[at:])]
+
+
+def with_value(text: bytes, line: int, place: int, value: str) -> bytes:
+    """A text with a value of a line, by its place from 0 on, written otherwise."""
+    lines = text.decode().splitlines()
+    values = lines[line - 1].split(" ")
+    lines[line - 1] = " ".join([*values[:place], value, *values[place + 1 :]])
+    return "".join(f"{each}\n" for each in lines).encode()

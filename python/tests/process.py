@@ -13,8 +13,12 @@ PACKAGE = Path(__file__).resolve().parents[1]
 COMMAND = [sys.executable, "-m", "noskjerf"]
 
 
+# the package is compiled once for all processes, also where Python is told to keep nothing
+COMPILED = {"PYTHONPYCACHEPREFIX": str(PACKAGE.parent / "target" / "compiled"), "PYTHONDONTWRITEBYTECODE": ""}
+
+
 def environment(**more: str) -> dict[str, str]:
-    return {**os.environ, "PYTHONPATH": str(PACKAGE), **more}
+    return {**os.environ, **COMPILED, "PYTHONPATH": str(PACKAGE), **more}
 
 
 @dataclass(frozen=True)
@@ -28,6 +32,11 @@ class Ended:
         """The one line on standard error."""
         assert len(self.lines) == 1, self.lines
         return self.lines[0]
+
+    @property
+    def headlines(self) -> list[str]:
+        """The lines on standard error, without those further in, which say more about the line before."""
+        return [line for line in self.lines if not line.startswith(" ")]
 
 
 def noskjerf(*arguments: str | Path, stdin: bytes = b"", **more: Any) -> Ended:

@@ -2,13 +2,17 @@
 
 from __future__ import annotations
 
+import fcntl
 import os
 import pty
 import resource
 import signal
 import subprocess
+import termios
 import time
+from array import array
 from pathlib import Path
+from typing import IO
 
 import pytest
 from noskjerf import MAX_TEXT, __version__
@@ -69,10 +73,13 @@ def test_on_a_terminal_it_says_that_it_waits() -> None:
     assert err == b"a text is read from the terminal; Ctrl-D ends it\n"
 
 
-def test_a_refused_text_is_status_1_and_a_line() -> None:
+def test_a_refused_text_is_status_1_and_a_line_and_the_value_at_fault() -> None:
     done = noskjerf("run", REFUSED)
     assert (done.status, done.out) == (1, REFUSED.with_suffix(".out").read_bytes())
-    assert done.line == f"{REFUSED}: opening, line 15: a bid reaches outside its default energy bid (refusal 11)"
+    assert done.lines == [
+        f"{REFUSED}: opening, line 15: a bid reaches outside its default energy bid (refusal 11)",
+        "  line 6: start of the bid of resource 0, 9999 (99.99 MW): the default energy bid reaches from 100 MW to 300 MW",
+    ]
 
 
 # ---- trouble
@@ -164,10 +171,10 @@ def small_files() -> None:
 
 @pytest.mark.parametrize("kind", ["text", "json", "csv"])
 def test_a_result_that_cannot_be_written_whole_is_not_written_at_all(kind: str, tmp_path: Path) -> None:
-    done = noskjerf("run", ACCEPTED, "--out", tmp_path / "out", "--format", kind, preexec_fn=small_files)
+    done = noskjerf("run", "T.txt", "--out", tmp_path / "out", "--format", kind, preexec_fn=small_files, cwd=DATA)
     assert done.status == 2
     assert "File too large" in done.lines[0]
-    assert list((tmp_path / "out").iterdir()) == []
+    assert {path.name: path.read_bytes() for path in (tmp_path / "out").iterdir()} in ({}, {"manifest.jsonl": b""})
 
 
 @pytest.mark.parametrize("arguments", [["tables", str(ACCEPTED), "-o", "out"], ["new", "-o", "out"]], ids=" ".join)
@@ -181,21 +188,20 @@ def test_other_files_are_written_whole_or_not_at_all(arguments: list[str], tmp_p
 def test_an_old_result_stays_where_the_new_one_fails(tmp_path: Path) -> None:
     old = tmp_path / "T.out"
     old.write_text("old\n")
-    assert noskjerf("run", ACCEPTED, "--out", tmp_path, preexec_fn=small_files).status == 2
-    assert [path.name for path in tmp_path.iterdir()] == ["T.out"]
-    assert old.read_text() == "old\n"
+    assert noskjerf("run", "T.txt", "--out", tmp_path, "--overwrite", preexec_fn=small_files, cwd=DATA).status == 2
+    assert {path.name: path.read_bytes() for path in tmp_path.iterdir()} == {"T.out": b"old\n", "manifest.jsonl": b""}
 
 
 def test_a_link_stays_a_link(tmp_path: Path) -> None:
     (tmp_path / "T.out").symlink_to(tmp_path / "elsewhere")
-    assert noskjerf("run", ACCEPTED, "--out", tmp_path).status == 0
+    assert noskjerf("run", "T.txt", "--out", tmp_path, cwd=DATA).status == 0
     assert (tmp_path / "T.out").is_symlink()
     assert (tmp_path / "elsewhere").read_bytes() == PRINTED
 
 
 def test_a_device_is_written_to_as_it_stands(tmp_path: Path) -> None:
     (tmp_path / "T.out").symlink_to("/dev/full")
-    done = noskjerf("run", ACCEPTED, "--out", tmp_path)
+    done = noskjerf("run", "T.txt", "--out", tmp_path, "--overwrite", cwd=DATA)
     assert done.status == 2
     assert done.lines[0] == f"{tmp_path / 'T.out'}: No space left on device"
 
@@ -214,6 +220,16 @@ def test_an_endless_file_is_refused_by_18() -> None:
 
 
 # ---- Ctrl-C
+def until_read(pipe: IO[bytes]) -> None:
+    """Waits until all that was written to a pipe is read."""
+    unread = array("i", [1])
+    for _ in range(1200):
+        fcntl.ioctl(pipe, termios.FIONREAD, unread)
+        if not unread[0]:
+            return
+        time.sleep(0.05)
+
+
 @pytest.mark.parametrize("arguments", [["run"], ["run", str(ACCEPTED), "-", "--format", "csv", "--out", "out"], ["explain"], ["diagnose"]], ids=" ".join)
 @pytest.mark.parametrize(("number", "status"), [(signal.SIGINT, 130), (signal.SIGTERM, 143)])
 def test_ctrl_c_ends_quietly_with_130(arguments: list[str], number: int, status: int, tmp_path: Path) -> None:
@@ -223,7 +239,7 @@ def test_ctrl_c_ends_quietly_with_130(arguments: list[str], number: int, status:
     assert running.stdin is not None
     running.stdin.write(b"month\n")
     running.stdin.flush()
-    time.sleep(1.0)
+    until_read(running.stdin)
     running.send_signal(number)
     out, err = running.communicate(timeout=20)
     assert (running.returncode, out, err) == (status, b"", b"")

@@ -9,8 +9,9 @@ from noskjerf import MAX_TEXT
 from noskjerf.diagnosis import diagnose
 
 from .cases import CASES, DATA, NAMED, Case, T, name_of
-from .examples import Example, examples
+from .examples import Example, examples, with_value
 from .process import noskjerf
+from .test_run_command import on_a_terminal
 
 def name_of_example(example: Example) -> str:
     return example.name
@@ -85,13 +86,6 @@ WRONG = [
     (19, 3, "1000001", 16, "available of resource 0"),
     (19, 4, "30001", 16, "floor of resource 0"),
 ]
-
-
-def with_value(text: bytes, line: int, place: int, value: str) -> bytes:
-    lines = text.decode().splitlines()
-    values = lines[line - 1].split(" ")
-    lines[line - 1] = " ".join([*values[:place], value, *values[place + 1 :]])
-    return "".join(f"{each}\n" for each in lines).encode()
 
 
 @pytest.mark.parametrize(("line", "place", "value", "number", "what"), WRONG)
@@ -195,3 +189,36 @@ def test_the_command_in_json(name: str) -> None:
     told = json.loads(done.out)
     assert done.status == 1
     assert (told["refusal"]["number"], told["refusal"]["line"]) == NAMED[name].refusal
+
+
+def test_the_command_shows_a_line_that_is_not_of_the_form() -> None:
+    done = noskjerf("diagnose", stdin=T.replace(b"\n", b"\r\n"))
+    assert done.status == 1
+    assert done.out.decode().splitlines() == [
+        "refusal 17, opening, line 1, column 6: a carriage return at the end of the line",
+        "  month\\r",
+        "       ^",
+        '  due: the names line "month"',
+        "  mend: 23 of 23 lines have one, as in a file from Windows: write newlines alone",
+    ]
+    assert done.line == "standard input: opening, line 1, column 6: a carriage return at the end of the line (refusal 17)"
+
+
+def test_the_command_has_the_form_in_json() -> None:
+    told = json.loads(noskjerf("diagnose", "--format", "json", stdin=T.replace(b"0 500000\n", b"0 \xff5\n")).out)
+    assert told["form"] == {
+        "column": 3,
+        "stands": "0 \\xff5",
+        "due": ["0 <shadow>", 'the names line "resource lmp dispatch available floor"'],
+        "kind": "outside ASCII",
+        "cause": "a byte outside ASCII, \\xff",
+        "mend": "a number has ASCII digits alone",
+    }
+    fault, = told["faults"]
+    assert (fault["line"], fault["column"], fault["what"]) == (17, 3, "a byte outside ASCII, \\xff")
+    assert json.loads(noskjerf("diagnose", DATA / "T.txt", "--format", "json").out)["form"] is None
+
+
+def test_a_terminal_has_it_once() -> None:
+    shown, _ = on_a_terminal(["diagnose", str(DATA / "A32_leading_zero.txt")], both=True)
+    assert shown.count(b"a leading zero") == 1

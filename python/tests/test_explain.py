@@ -117,7 +117,9 @@ def test_a_text_without_a_page_is_explained(case: Case, kind: str, capfd: pytest
 def test_a_text_from_standard_input_is_explained() -> None:
     done = noskjerf("explain", stdin=b"month\n025\n")
     assert done.status == 1
-    assert done.line.startswith("standard input: opening, line 2: ")
+    assert done.line == "standard input: opening, line 2, column 1: a leading zero in month, 025 (refusal 17)"
+    said = "Refused: opening, line 2, column 1: a leading zero in month, 025 (refusal 17)\n  025\n  ^\n  due: <month>\n  mend: write 25\n"
+    assert said in done.out.decode()
 
 
 # ---- every figure
@@ -153,8 +155,19 @@ def test_case_t_in_json() -> None:
     assert (constraint["demand"], constraint["supply"], constraint["left"]) == (10000000000, 15000000000, 0)
     assert constraint["sellers"] == [{"constraint": 0, "portfolio": 0, "withheld": 15000000000}]
     assert effect["terms"] == [{"constraint": 0, "factor": -500000, "shadow": 500000, "term": 250000000000}]
-    assert (effect["competitive_price"], effect["floor_price"], effect["cut"]) == (350000, 350100, True)
+    assert (effect["competitive_price"], effect["floor_price"], effect["capped"], effect["cut"]) == (350000, 350100, True, True)
     assert told["differences"] == []
+
+
+@hours
+def test_a_cap_that_changes_nothing_is_no_cut() -> None:
+    """docs/GALLERY.md: of the six bids of the example two are cut; resource 5 is capped above what it asks, and the others aren't dispatched."""
+    example = ROOT / "examples" / "three-sellers.txt"
+    said = noskjerf("explain", example).out.decode()
+    found = re.findall(r"^Resource \d: (.*) \(lmp", said, re.MULTILINE)
+    assert found == ["no cap", "cut", "cut", "no cap", "no cap", "a cap applies and changes nothing"]
+    effects = json.loads(noskjerf("explain", example, "--format", "json").out)["intervals"][0]["resources"]
+    assert [(effect["capped"], effect["cut"]) for effect in effects[1:]] == [(True, True), (True, True), (False, False), (False, False), (True, False)]
 
 
 @hours
@@ -193,7 +206,7 @@ def test_the_paper_s_figures_of_case_t_agree(monkeypatch: pytest.MonkeyPatch) ->
         ({"component": 250_000_000_001}, "component"),
         ({"competitive_price": 350_001}, "competitive price"),
         ({"floor_price": 350_000}, "floor price"),
-        ({"cut": False}, "cut"),
+        ({"capped": False}, "a cap applies"),
     ],
 )
 def test_a_figure_that_differs_is_told_with_status_2(

@@ -8,7 +8,7 @@ import sys
 from typing import Any
 
 import pytest
-from noskjerf import Book, Interval, Market, bid, default_curve, interval_of, opening_of, run
+from noskjerf import Book, Curve, Interval, Market, bid, default_curve, dollars, interval_of, mw, opening_of, run
 
 from .cases import CASES, CHARGES_OF_T, NAMED, POINTS_OF_T, ROOT, Case, T, name_of
 from .test_parts import INTERVAL_OF_T, OPENING_OF_T, TABLES
@@ -63,7 +63,7 @@ def test_an_opening_from_frames() -> None:
         "resources": frame("resource portfolio start", TABLES["resources"]),
         "steps": frame("resource end price", TABLES["steps"]),
         "points": frame("resource mw heat", TABLES["points"])[["heat", "mw", "resource"]],
-        "charges": frame("resource gas rate allowance om msc soc fee", TABLES["charges"]).astype(float),
+        "charges": frame("resource gas rate allowance om msc soc fee", TABLES["charges"]).astype("int32"),
     }
     assert opening_of(month=pandas.Series([25])[0], **tables) == OPENING_OF_T
 
@@ -77,13 +77,21 @@ def test_an_interval_from_frames() -> None:
 
 
 def test_a_gap_in_a_frame_is_an_error_that_names_it() -> None:
-    steps = frame("end price", [(15000, 300000), (30000, None)])
-    with pytest.raises(ValueError, match=r"^steps.price\[1\]: nan is no whole number"):
+    steps = frame("end price", [(15000, None), (30000, 300000)])
+    with pytest.raises(ValueError, match=r"^steps.price\[0\]: nan is no whole number"):
         bid(25, 0, steps)
-    with pytest.raises(TypeError, match=r"^steps.price\[1\]: a whole number is due, not NAType"):
+    with pytest.raises(TypeError, match=r"^steps.price\[0\]: a whole number is due, not NAType"):
         bid(25, 0, steps.astype("Int64"))
     with pytest.raises(ValueError, match="^steps: there is no column 'price'"):
         bid(25, 0, steps[["end"]])
+
+
+def test_a_frame_in_mw_and_dollars() -> None:
+    steps = frame("end price", [(150.0, 30.0), (300.0, 64.29)])
+    with pytest.raises(TypeError, match=r"^steps.end\[0\]: a whole number of hundredths of a MW is due, not the float 150.0: write mw\(150.0\)"):
+        Curve(mw(100), steps)
+    exact = steps.assign(end=steps.end.map(mw), price=steps.price.map(dollars))
+    assert Curve(mw(100), exact) == Curve(10000, [(15000, 300000), (30000, 642900)])
 
 
 def test_points_and_books_from_frames() -> None:

@@ -2,6 +2,8 @@
 
 from __future__ import annotations
 
+import copy
+import pickle
 from typing import Any
 
 import pytest
@@ -66,5 +68,12 @@ def test_a_long_list_is_tested_whole() -> None:
 
 
 def test_a_market_is_taken_by_its_number() -> None:
-    markets: list[Any] = [0.0, 1.0]
+    markets: list[Any] = [0, 1]
     assert [Book([(1, 7)], DAYS).price(market, 4) for market in markets] == [7, 40000]
+
+
+def test_a_book_that_was_asked_is_copied_and_pickled() -> None:
+    book = Book([(1, 7)], DAYS)
+    assert book.price(Market.DAY_AHEAD, 4) == 7
+    for other in (copy.copy(book), copy.deepcopy(book), pickle.loads(pickle.dumps(book))):
+        assert other == book and other.price(Market.REAL_TIME, 4) == book.price(Market.REAL_TIME, 4)

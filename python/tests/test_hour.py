@@ -2,13 +2,16 @@
 
 from __future__ import annotations
 
+import copy
+import pickle
 import threading
+from collections.abc import Callable
 from concurrent.futures import ThreadPoolExecutor
 from dataclasses import replace
 from typing import Any
 
 import pytest
-from noskjerf import Curve, Hour, Interval, Opening, Parts, Refusal, Resource, Step, read
+from noskjerf import Curve, Hour, Interval, Judged, Opening, Parts, Refusal, Resource, Step, read
 from noskjerf._library import LibraryError, has_hours
 
 from .cases import CASES, Case, name_of
@@ -34,8 +37,7 @@ def curve_lines(hour: Hour, interval: int) -> list[str]:
 
 
 def hour_printed(parts: Parts) -> tuple[list[str], int]:
-    """What an hour in numbers finds of the parts, as lines of the text without names, and the number of its refusal. The sellers of a
-    constraint come by portfolio."""
+    """What an hour in numbers finds of the parts, as lines of the text without names, and the number of its refusal."""
     lines: list[str] = []
     try:
         hour = Hour.open(parts.opening)
@@ -53,10 +55,10 @@ def hour_printed(parts: Parts) -> tuple[list[str], int]:
 @hours
 @pytest.mark.parametrize(("case", "parts"), READ, ids=[name_of(case) for case, _ in READ])
 def test_an_hour_finds_what_the_text_prints(case: Case, parts: Parts) -> None:
-    """The same lines, and the same refusal where it isn't one of form."""
+    """The same lines in the same order, sellers by weight (2.3), and the same refusal where it isn't one of form."""
     lines, number = hour_printed(parts)
     printed = case.printed.decode().split("refusal line\n")[0].splitlines()
-    assert sorted(lines) == sorted(line for line in printed if line[0].isdigit())
+    assert lines == [line for line in printed if line[0].isdigit()]
     refused = case.refusal[0] if case.refusal else 0
     assert number == (0 if refused == 17 else refused)
 
@@ -71,14 +73,25 @@ def test_the_bid_starts_where_it_was_submitted_and_the_default_is_that_of_t() ->
 
 
 @hours
-def test_why_t_is_cut() -> None:
+def test_why_t_is_capped() -> None:
     """Paper 01, Case T: component 500,000 x 500,000, competitive price 350,000, and with the parameter a floor price of 350,100."""
     hour = Hour.open(OPENING_OF_T)
     (cause,) = hour.why(INTERVAL_OF_T)
-    assert (cause.resource, cause.cut, cause.component, cause.competitive_price, cause.floor_price) == (0, True, 500000 * 500000, 350000, 350100)
+    assert (cause.resource, cause.capped, cause.component, cause.competitive_price, cause.floor_price) == (0, True, 500000 * 500000, 350000, 350100)
     assert hour.accepted == 0
     (spared,) = hour.why(replace(INTERVAL_OF_T, dispatch=(0,)))
-    assert (spared.cut, spared.floor_price) == (False, 0)
+    assert (spared.capped, spared.floor_price) == (False, 0)
+
+
+@hours
+def test_a_cap_that_changes_nothing() -> None:
+    """P8 of paper 01: a bid of 300,000 below its cap, the default price. A cap applies, and nothing is cut."""
+    bid = Curve(10000, [(30000, 300000)])
+    hour = Hour.open(replace(OPENING_OF_T, resources=(replace(OPENING_OF_T.resources[0], bid=bid),)))
+    (cause,) = hour.why(INTERVAL_OF_T)
+    assert (cause.capped, cause.floor_price) == (True, 350100)
+    hour.interval(INTERVAL_OF_T)
+    assert hour.curve(0) == bid
 
 
 def with_pack(pack: Curve) -> Opening:
@@ -207,7 +220,7 @@ def test_a_resource_that_is_not_there_is_an_index_error(resource: int) -> None:
 @hours
 def test_a_wrong_resource_names_its_field() -> None:
     hour = Hour.open(OPENING_OF_T)
-    wrong: list[tuple[Any, type[Exception]]] = [(None, TypeError), ("0", TypeError), (True, TypeError), (0.5, ValueError), (2**64, OverflowError)]
+    wrong: list[tuple[Any, type[Exception]]] = [(None, TypeError), ("0", TypeError), (True, TypeError), (0.0, TypeError), (2**64, OverflowError)]
     for resource, error in wrong:
         with pytest.raises(error, match="^resource: "):
             hour.curve(resource)
@@ -228,14 +241,121 @@ def test_what_is_no_interval_is_a_type_error(wrong: Any) -> None:
             call(wrong)
 
 
+def pickled(protocol: int) -> Callable[[Hour], Hour]:
+    def copied(hour: Hour) -> Hour:
+        other: Hour = pickle.loads(pickle.dumps(hour, protocol))
+        return other
+
+    return copied
+
+
+PICKLED = [pickled(protocol) for protocol in range(pickle.HIGHEST_PROTOCOL + 1)]
+COPIES: list[Callable[[Hour], Hour]] = [Hour.copy, copy.copy, copy.deepcopy, *PICKLED]
+
+
 @hours
-def test_a_copy_is_an_hour_of_its_own() -> None:
+@pytest.mark.parametrize("copied", COPIES, ids=["copy", "copy.copy", "copy.deepcopy", *(f"pickle {i}" for i in range(len(PICKLED)))])
+def test_a_copy_is_an_hour_of_its_own(copied: Callable[[Hour], Hour]) -> None:
+    """It stands where the other stood, and neither changes with the other."""
     hour = Hour.open(OPENING_OF_T)
-    other = hour.copy()
+    other = copied(hour)
+    assert type(other) is Hour and other == hour
     other.interval(INTERVAL_OF_T)
     assert (hour.accepted, other.accepted) == (0, 1)
     assert hour.curve(0).steps[1] == Step(30000, 900000)
     assert other.curve(0).steps[1] == Step(20000, 378402)
+    third = copied(other)
+    for each in (other, third):
+        each.pass_(LOWER)
+    assert third == other != hour
+    hour.interval(LOWER)
+    assert (hour.passes, third.passes, hour.five_minute(0)) == (0, 1, hour.curve(0))
+
+
+class Named(Hour):
+    """An hour with a note of its own."""
+
+    note: list[Any]
+
+
+@hours
+def test_copies_of_a_class_made_of_hours() -> None:
+    hour = Named(OPENING_OF_T)
+    hour.note = ["mine"]
+    assert type(hour.copy()) is Named
+    for copied in COPIES[2:]:
+        other = copied(hour)
+        assert isinstance(other, Named)
+        other.note.append("other")
+    assert hour.note == ["mine"]
+    hour.note.append(hour)
+    again = copy.deepcopy(hour)
+    assert again.note[1] is again and again == hour
+
+
+@hours
+@pytest.mark.parametrize("copied", COPIES[:3])
+def test_a_copy_does_not_wait_for_its_original(copied: Callable[[Hour], Hour]) -> None:
+    hour = Hour.open(OPENING_OF_T)
+    other = copied(hour)
+    with hour._lock:
+        asked = threading.Thread(target=other.curve, args=(0,), daemon=True)
+        asked.start()
+        asked.join(timeout=10)
+        assert not asked.is_alive()
+
+
+@hours
+def test_a_pickle_of_another_engine_is_an_error() -> None:
+    hour = Hour.open(OPENING_OF_T)
+    kept = hour.__getstate__()
+    with pytest.raises(ValueError, match="^the hour has 3410 cells, and this version of noskjerf keeps 3411$"):
+        hour.__setstate__({**kept, "_state": kept["_state"][1:]})
+    assert hour == Hour.open(OPENING_OF_T)
+
+
+@hours
+def test_hours_are_equal_where_they_stand_alike() -> None:
+    hour, other = Hour.open(OPENING_OF_T), Hour.open(OPENING_OF_T)
+    assert hour == other and hour is not other
+    assert hour != Hour.open(replace(OPENING_OF_T, sellers=(0,)))
+    with pytest.raises(Refusal):
+        other.interval(replace(INTERVAL_OF_T, parameter=101))
+    assert hour == other
+    other.interval(INTERVAL_OF_T)
+    assert hour != other
+    hour.interval(INTERVAL_OF_T)
+    assert hour == other
+    assert hour != "hour" and hour != None  # noqa: E711
+    with pytest.raises(TypeError, match="unhashable"):
+        hash(hour)
+
+
+@hours
+def test_an_hour_says_where_it_stands() -> None:
+    hour = Hour.open(Opening(25, (1,), OPENING_OF_T.resources * 2))
+    assert repr(hour) == "<Hour of 2 resources: 0 intervals accepted, 0 passes since>"
+    hour = Named(OPENING_OF_T)
+    hour.interval(INTERVAL_OF_T)
+    hour.pass_(INTERVAL_OF_T)
+    assert repr(hour) == str(hour) == "<Named of 1 resource: 1 interval accepted, 1 pass since>"
+
+
+@hours
+def test_sellers_of_an_hour_come_by_weight() -> None:
+    """Paper 02, 2.3: the larger withheld amount first, equal ones by lower portfolio number. Portfolio p can withhold what is available."""
+    bid = Curve(0, [(10000, 0)])
+    opening = Opening(25, (1, 1, 1), [Resource(p, bid, bid) for p in range(3)])
+    for available, order in (((100, 300, 200), (1, 2, 0)), ((100, 300, 300), (1, 2, 0)), ((200, 100, 200), (0, 2, 1)), ((100, 100, 100), (0, 1, 2))):
+        interval = Interval([1], (0,) * 3, available, available, (0,) * 3, [(p, 0, -1_000_000) for p in range(3)])
+        for judged in (Hour.open(opening).interval(interval), passed(opening, interval)):
+            assert [(s.portfolio, s.withheld) for s in judged.sellers] == [(p, available[p] * 1_000_000) for p in order]
+
+
+def passed(opening: Opening, interval: Interval) -> Judged:
+    hour = Hour.open(opening)
+    hour.interval(interval)
+    return hour.pass_(interval)
 
 
 @hours

@@ -8,7 +8,7 @@ from fractions import Fraction
 from typing import Any, Callable
 
 import pytest
-from noskjerf import Book, Charges, Curve, Factor, Interval, Market, Opening, Point, Resource, Step, bid, default_curve
+from noskjerf import Book, Charges, Curve, Entry, Factor, Interval, Market, Opening, Point, Resource, Step, bid, default_curve
 from noskjerf._numbers import column, whole
 
 WRONG = [
@@ -19,12 +19,17 @@ WRONG = [
     ([5], TypeError),
     (5j, TypeError),
     (Decimal(5), TypeError),
+    (Decimal("5.5"), TypeError),
+    (Decimal("NaN"), ValueError),
     (object(), TypeError),
     (float("nan"), ValueError),
     (float("inf"), ValueError),
-    (-0.5, ValueError),
-    (Fraction(1, 3), ValueError),
-    (1e300, OverflowError),
+    (-0.5, TypeError),
+    (3.0, TypeError),
+    (Fraction(1, 3), TypeError),
+    (Fraction(3), TypeError),
+    (Fraction(10**400), TypeError),
+    (1e300, TypeError),
     (2**64, OverflowError),
     (-(2**63) - 1, OverflowError),
     (10**5000, OverflowError),
@@ -59,6 +64,8 @@ FIELDS: list[tuple[str, Callable[[Any], object]]] = [
     ("market", lambda n: BOOK.run(n, 1)),
     ("day", lambda n: BOOK.price(Market.REAL_TIME, n)),
     ("day", lambda n: BOOK.default_curve(Market.DAY_AHEAD, n, POINTS, Charges())),
+    ("day", lambda n: Entry(n, 1)),
+    ("price", lambda n: Entry(1, n)),
 ]
 
 
@@ -68,7 +75,7 @@ def test_a_wrong_number_is_an_error_that_names_its_field(field: str, take: Calla
         with pytest.raises(error) as raised:
             take(wrong)
         assert str(raised.value).startswith(f"{field}: "), wrong
-        assert len(str(raised.value)) < 120
+        assert len(str(raised.value)) < 180
 
 
 def test_a_missing_parameter_is_none_and_no_other_wrong_number_is_taken() -> None:
@@ -95,17 +102,35 @@ def test_numbers_reach_the_ends_of_their_bits() -> None:
 
 def test_whole_numbers_of_other_kinds_are_taken() -> None:
     numpy = pytest.importorskip("numpy")
-    kinds = [3.0, Fraction(6, 2), numpy.int8(3), numpy.uint64(3), numpy.int64(3), numpy.float32(3), numpy.float64(3), numpy.array(3)]
+    kinds = [numpy.int8(3), numpy.uint8(3), numpy.uint64(3), numpy.int64(3), numpy.array(3), Whole(3), Market(1) + 2]
     for number in kinds:
         assert whole("price", number) == 3
         assert type(whole("price", number)) is int
-    for wrong in (numpy.bool_(True), numpy.datetime64(3, "s"), numpy.array([3]), numpy.complex128(3)):
+    assert Curve(numpy.int64(100), [(numpy.uint32(200), numpy.int16(3))]) == Curve(100, [(200, 3)])
+    for wrong in (numpy.bool_(True), numpy.datetime64(3, "s"), numpy.array([3]), numpy.complex128(3), numpy.array(3.0)):
         with pytest.raises(TypeError, match="^price: a whole number is due"):
+            whole("price", wrong)
+    for wrong in (numpy.float16(3), numpy.float32(3), numpy.float64(3), numpy.longdouble(3)):
+        with pytest.raises(TypeError, match=r"^price: .* not the \w+ 3.0: write dollars\(3.0\), or 3 if it is in these units already"):
             whole("price", wrong)
     with pytest.raises(ValueError, match="^price: nan is no whole number"):
         whole("price", numpy.float32("nan"))
     with pytest.raises(OverflowError, match="^price: "):
         whole("price", numpy.uint64(2**64 - 1))
+
+
+class Whole(int):
+    """A number that says other things of itself than it is."""
+
+    def __lt__(self, other: int) -> bool:
+        return True
+
+    __le__ = __gt__ = __ge__ = __lt__
+
+
+def test_a_number_cannot_lie_about_its_size() -> None:
+    with pytest.raises(OverflowError):
+        whole("price", Whole(2**64))
 
 
 @pytest.mark.parametrize("values", [None, 5, 5.0, "12", b"12", bytearray(b"12"), memoryview(b"12"), {1: 2}, {1, 2}, frozenset([1]), object()])
@@ -116,8 +141,10 @@ def test_what_is_no_list_is_a_type_error(values: Any) -> None:
 
 def test_lists_of_every_kind_are_taken() -> None:
     numpy = pytest.importorskip("numpy")
-    for values in ([1, 2], (1.0, 2), range(1, 3), iter([1, 2]), numpy.array([1, 2]), numpy.array([1.0, 2.0])):
+    for values in ([1, 2], (1, 2), range(1, 3), iter([1, 2]), numpy.array([1, 2])):
         assert column("shadow", values) == (1, 2)
+    with pytest.raises(TypeError, match=r"^shadow\[0\]: .*write dollars\(1.0\)"):
+        column("shadow", numpy.array([1.0, 2.0]))
     with pytest.raises(TypeError, match=r"^shadow\[0\]: a whole number is due, not ndarray"):
         column("shadow", numpy.array([[1, 2]]))
 

@@ -117,7 +117,7 @@ def test_an_interval_from_tables() -> None:
         ([(1, 0, 5)], r"factors\[0\].resource: the interval has no resource 1"),
         ([(-1, 0, 5)], r"factors\[0\].resource: the interval has no resource -1"),
         ([(0, 0, 5), (0, 0, 6)], r"factors\[1\]: resource 0 has its factor on constraint 0 already"),
-        ([(0, 0, 0.5)], r"factors\[0\].factor: 0.5 is no whole number"),
+        ([(0, 0, 0.5)], r"factors\[0\].factor: a whole number of millionths is due, not the float 0.5: write 500000"),
         ([(0, 0, 2**63)], r"factors\[0\].factor: a number from"),
         ([0, 0, 5], r"factors\[0\]: a list is due, not int"),
         (None, "factors: a list is due, not None"),

@@ -8,7 +8,9 @@ import json
 import os
 import pty
 import subprocess
+from decimal import Decimal
 from pathlib import Path
+from typing import Any
 
 import pytest
 
@@ -16,18 +18,30 @@ from .cases import CASES, DATA, NAMED, Case, T, name_of
 from .process import COMMAND, environment, noskjerf
 
 TEXTS = sorted(DATA.glob("*.txt"))
+NAMES = [path.name for path in TEXTS]
 REFUSED = [case for case in CASES if case.refusal]
 ACCEPTED = DATA / "T.txt"
 
 
 @pytest.mark.parametrize("jobs", ["1", "3", "40"])
 def test_every_case_has_its_bytes(jobs: str, tmp_path: Path) -> None:
-    done = noskjerf("run", *TEXTS, "--out", tmp_path / "out", "--jobs", jobs)
+    done = noskjerf("run", *NAMES, "--out", tmp_path / "out", "--jobs", jobs, cwd=DATA)
     assert done.status == 1
     assert done.out == b""
-    assert {path.name: path.read_bytes() for path in (tmp_path / "out").iterdir()} == {f"{case.name}.out": case.printed for case in CASES}
+    assert results(tmp_path / "out") == {f"{case.name}.out": case.printed for case in CASES}
     assert done.lines[-1] == f"{len(CASES)} texts: {len(CASES) - len(REFUSED)} accepted, {len(REFUSED)} refused"
-    assert [line.split(":")[0] for line in done.lines[:-1]] == [str(DATA / f"{case.name}.txt") for case in REFUSED]
+    assert [line.split(":")[0] for line in done.headlines[:-1]] == [f"{case.name}.txt" for case in REFUSED]
+
+
+def results(out: Path) -> dict[str, bytes]:
+    """The files of a folder of results but its manifest."""
+    files = {str(path.relative_to(out)): path.read_bytes() for path in out.rglob("*") if path.is_file()}
+    assert files.pop("manifest.jsonl", None) is not None
+    return files
+
+
+def manifest(out: Path) -> list[dict[str, Any]]:
+    return [json.loads(line) for line in (out / "manifest.jsonl").read_text().splitlines()]
 
 
 def test_several_texts_have_their_names_before_them() -> None:
@@ -39,10 +53,10 @@ def test_several_texts_have_their_names_before_them() -> None:
 
 
 def test_trouble_with_one_file_stops_no_other(tmp_path: Path) -> None:
-    done = noskjerf("run", ACCEPTED, "nowhere.txt", "-", "--out", tmp_path, stdin=T)
+    done = noskjerf("run", "T.txt", "nowhere.txt", "-", "--out", tmp_path, stdin=T, cwd=DATA)
     assert done.status == 2
     assert done.lines == ["nowhere.txt: No such file or directory", "3 texts: 2 accepted, 0 refused, 1 with trouble"]
-    assert sorted(path.name for path in tmp_path.iterdir()) == ["T.out", "stdin.out"]
+    assert results(tmp_path) == {"T.out": NAMED["T"].printed, "stdin.out": NAMED["T"].printed}
 
 
 def json_printed(told: dict[str, object]) -> bytes:
@@ -71,7 +85,7 @@ def test_json_has_an_object_a_line() -> None:
 
 
 def test_json_files(tmp_path: Path) -> None:
-    noskjerf("run", ACCEPTED, "--format", "json", "--out", tmp_path)
+    noskjerf("run", "T.txt", "--format", "json", "--out", tmp_path, cwd=DATA)
     assert json_printed(json.loads((tmp_path / "T.json").read_bytes())) == NAMED["T"].printed
 
 
@@ -97,13 +111,51 @@ def printed_rows(case: Case) -> dict[str, list[list[str]]]:
 
 def test_csv_has_four_tables_over_all_texts(tmp_path: Path) -> None:
     noskjerf("run", *TEXTS, "--format", "csv", "--out", tmp_path)
-    assert sorted(path.name for path in tmp_path.iterdir()) == ["curves.csv", "refusals.csv", "sellers.csv", "verdicts.csv"]
+    assert sorted(path.name for path in tmp_path.iterdir()) == ["curves.csv", "manifest.jsonl", "refusals.csv", "sellers.csv", "verdicts.csv"]
     for names, table in TABLES.items():
         header, *rows = csv.reader(io.StringIO((tmp_path / f"{table}.csv").read_text()))
         width = 1 + len(names.split())
         assert header[:width] == ["file", *names.split()]
         due = [[str(DATA / f"{case.name}.txt"), *row] for case in CASES for row in printed_rows(case)[table]]
         assert [row[:width] for row in rows] == due
+
+
+def test_a_table_of_refusals_has_the_line_at_fault_beside_the_parts_last() -> None:
+    refused = [DATA / f"{name}.txt" for name in ("B17_bid_start_below_default", "A32_leading_zero", "A23_fifth_interval")]
+    told = noskjerf("run", *refused, "--format", "csv").out.decode().split("\n\n")[-1]
+    header, value, form, fifth = csv.reader(io.StringIO(told))
+    assert header == ["file", "refusal", "line", "part", "sentence", "at", "fault"]
+    assert (value[2], value[5], value[6].split(",")[0]) == ("15", "6", "line 6: start of the bid of resource 0")
+    assert (form[2], form[5]) == (str(NAMED["A32_leading_zero"].refusal[1]),) * 2  # type: ignore[index]
+    assert "a leading zero" in form[4] and "due: " in form[6]
+    assert fifth[5:] == ["", ""]
+
+
+def test_json_has_the_values_at_fault() -> None:
+    told = json.loads(noskjerf("run", DATA / "B17_bid_start_below_default.txt", "--format", "json").out)
+    assert [(fault["line"], fault["value"]) for fault in told["faults"]] == [(6, 9999)]
+    assert json.loads(noskjerf("run", ACCEPTED, "--format", "json").out)["faults"] == []
+
+
+def test_a_line_that_is_not_of_the_form_is_shown_with_a_caret() -> None:
+    done = noskjerf("run", "-", stdin=T.replace(b"0 0 10000", b"0\t0 10000"))
+    assert done.lines == [
+        "standard input: opening, line 6, column 2: a tab (refusal 17)",
+        "  0\\t0 10000",
+        "   ^",
+        "  due: 0 <portfolio> <start>",
+        '   or: the names line "resource end price"',
+        "  mend: one space parts two values",
+    ]
+
+
+def test_many_values_at_fault_are_not_a_wall() -> None:
+    """Three are named, and how many more there are."""
+    lines = T.decode().splitlines()
+    factors = [f"{r} {c} 1000001" for r in range(1) for c in range(9)]
+    text = "\n".join([*lines[:16], *(f"{c} 5" for c in range(9)), *lines[17:20], *factors, *lines[21:]]) + "\n"
+    done = noskjerf("run", stdin=text.encode())
+    assert [line.split(":")[0] for line in done.lines] == ["standard input", "  line 29", "  line 30", "  line 31", "  and 6 more"]
 
 
 def test_csv_on_standard_output() -> None:
@@ -113,15 +165,33 @@ def test_csv_on_standard_output() -> None:
     assert rows[2][2] == [str(ACCEPTED), "1", "0", "20000", "378402"]
 
 
-# ---- names
-def test_names_that_collide_are_trouble_before_anything_is_run(tmp_path: Path) -> None:
-    for folder in ("a", "b"):
-        (tmp_path / folder).mkdir()
-        (tmp_path / folder / "hour.txt").write_bytes(T)
-    done = noskjerf("run", "a/hour.txt", "b/hour.txt", "--out", "out", cwd=tmp_path)
-    assert done.status == 2
-    assert done.line == "noskjerf: a/hour.txt and b/hour.txt would both be written to out/hour.out"
-    assert not (tmp_path / "out").exists()
+def test_csv_in_mw_and_dollars(tmp_path: Path) -> None:
+    """Every number is the engine's, with the point where docs/FORMAT.md's units put it."""
+    noskjerf("run", *TEXTS, "--format", "csv", "--out", tmp_path / "engine")
+    noskjerf("run", *TEXTS, "--format", "csv", "--out", tmp_path / "units", "--units")
+    places = {"demand": 8, "left": 8, "withheld": 8, "end": 2, "price": 4}
+    for table in TABLES.values():
+        engine, shown = (list(csv.DictReader(io.StringIO((tmp_path / folder / f"{table}.csv").read_text()))) for folder in ("engine", "units"))
+        assert engine
+        assert [{name: moved(cell, places.get(name)) for name, cell in row.items()} for row in shown] == engine
+
+
+def moved(cell: str, places: int | None) -> str:
+    """A cell with its point moved to the right."""
+    return cell if places is None else str(int(Decimal(cell).scaleb(places)))
+
+
+def test_csv_of_t_in_mw_and_dollars() -> None:
+    """Case T: 100 MW of demand, 150 MW withheld, and the default prices that docs/FORMAT.md has in dollars."""
+    tables = noskjerf("run", "T.txt", "--format", "csv", "--units", cwd=DATA).out.decode().split("\n\n")
+    assert "T.txt,1,0,1,100.00,0.00" in tables[0]
+    assert "T.txt,1,0,0,150.00" in tables[1]
+    assert tables[2].splitlines()[1:] == [f"T.txt,1,0,{step}" for step in ("150.00,30.00", "200.00,37.8402", "240.00,44.4403", "300.00,48.8402")]
+
+
+@pytest.mark.parametrize("kind", ["text", "json"])
+def test_units_are_of_csv_alone(kind: str) -> None:
+    assert noskjerf("run", ACCEPTED, "--units", "--format", kind).line == "noskjerf: --units is about the tables of --format csv"
 
 
 def test_one_name_with_two_endings_collides(tmp_path: Path) -> None:
@@ -143,20 +213,10 @@ def test_standard_input_is_read_once() -> None:
     assert noskjerf("run", "-", "-", stdin=T).line == "noskjerf: standard input is named twice"
 
 
-def test_csv_takes_texts_of_one_name(tmp_path: Path) -> None:
-    assert noskjerf("run", ACCEPTED, ACCEPTED, "--format", "csv", "--out", tmp_path).status == 0
-
-
 def test_a_folder_that_cannot_be_made_is_trouble(tmp_path: Path) -> None:
     (tmp_path / "out").write_text("")
     done = noskjerf("run", ACCEPTED, "--out", tmp_path / "out")
     assert (done.status, done.line) == (2, f"noskjerf: {tmp_path / 'out'}: File exists")
-
-
-def test_an_old_result_is_replaced(tmp_path: Path) -> None:
-    (tmp_path / "T.out").write_text("old\n")
-    assert noskjerf("run", ACCEPTED, "--out", tmp_path).status == 0
-    assert (tmp_path / "T.out").read_bytes() == NAMED["T"].printed
 
 
 # ---- the bar
@@ -199,3 +259,9 @@ def test_no_bar_among_results_on_the_terminal() -> None:
 
 def test_no_bar_in_a_pipe(tmp_path: Path) -> None:
     assert not any("text/s]" in line for line in noskjerf("run", *TEXTS, "--out", tmp_path).lines)
+
+
+def test_a_result_is_where_its_text_is_not_below_the_current_folder(tmp_path: Path) -> None:
+    noskjerf("run", *TEXTS, "--out", tmp_path / "out", cwd=tmp_path)
+    below = str(DATA).lstrip("/")
+    assert results(tmp_path / "out") == {f"{below}/{case.name}.out": case.printed for case in CASES}

@@ -6,8 +6,9 @@ import re
 from pathlib import Path
 
 import pytest
-from noskjerf import Refusal, read, run, write
+from noskjerf import Parts, Refusal, read, run, write
 from noskjerf.csv_tables import csv_files, from_folder
+from noskjerf.files import Trouble
 from noskjerf.starter import starter
 
 from .cases import CASES, DATA, ROOT, Case, T, name_of
@@ -45,12 +46,16 @@ def test_most_texts_are_read() -> None:
     assert len(READ) > 80
 
 
+@pytest.mark.parametrize("units", [False, True])
 @pytest.mark.parametrize("case", READ, ids=name_of)
-def test_tables_and_back(case: Case, tmp_path: Path) -> None:
-    files = csv_files(read(case.text))
+def test_tables_and_back(case: Case, units: bool, tmp_path: Path) -> None:
+    """To the byte, also the tables of the text that comes of them."""
+    files = csv_files(read(case.text), units)
     for name, data in files.items():
         (tmp_path / name).write_bytes(data.encode())
-    assert write(*from_folder(str(tmp_path))).encode() == lines_read(case)
+    parts = from_folder(str(tmp_path), units)
+    assert write(*parts).encode() == lines_read(case)
+    assert csv_files(Parts(parts[0], tuple(parts[1]), None), units) == files
 
 
 def test_files_and_columns_are_called_as_the_tables(tmp_path: Path) -> None:
@@ -60,12 +65,13 @@ def test_files_and_columns_are_called_as_the_tables(tmp_path: Path) -> None:
     assert {path.name: path.read_text().splitlines()[0].split(",") for path in (tmp_path / "t").iterdir()} == due
 
 
-def test_the_commands_there_and_back(tmp_path: Path) -> None:
+@pytest.mark.parametrize("units", [[], ["--units"]])
+def test_the_commands_there_and_back(units: list[str], tmp_path: Path) -> None:
     for case in [case for case in READ if case.refusal is None][::9]:
         folder = tmp_path / case.name
-        done = noskjerf("tables", DATA / f"{case.name}.txt", "-o", folder)
+        done = noskjerf("tables", DATA / f"{case.name}.txt", "-o", folder, *units)
         assert (done.status, done.out, done.lines) == (0, b"", [])
-        done = noskjerf("text", folder)
+        done = noskjerf("text", folder, *units)
         assert (done.status, done.out, done.lines) == (0, case.text, [])
 
 
@@ -76,7 +82,7 @@ def test_a_text_refused_by_value_has_tables_and_status_1(tmp_path: Path) -> None
     assert done.line.endswith("(refusal 15); the tables end there")
     done = noskjerf("text", tmp_path / "t", "-o", tmp_path / "again.txt")
     assert (done.status, (tmp_path / "again.txt").read_bytes()) == (1, text)
-    assert done.line.endswith("(refusal 15)")
+    assert done.headlines[0].endswith("(refusal 15)") and done.lines[1:] == ["  line 23: parameter, 101 ($0.0101/MWh): outside $0 to $0.01/MWh"]
 
 
 def test_a_text_that_is_not_read_has_none(tmp_path: Path) -> None:
@@ -108,7 +114,7 @@ def folder(tmp_path: Path) -> Path:
 
 
 def test_rows_columns_spaces_and_marks_of_a_spreadsheet(folder: Path) -> None:
-    (folder / "resource_mw_heat.csv").write_bytes("\ufeffheat,resource,mw\r\n10000, 0 ,10000.0\r\n9000,0,20000\r\n9500,0,30000\r\n\r\n".encode())
+    (folder / "resource_mw_heat.csv").write_bytes("\ufeffheat,resource,mw\r\n10000, 0 ,10000\r\n9000,0,20000\r\n9500,0,30000\r\n\r\n".encode())
     assert noskjerf("text", folder).out == T
 
 
@@ -117,6 +123,122 @@ def test_pandas_may_have_written_them(folder: Path) -> None:
     for path in folder.glob("*.csv"):
         pandas.read_csv(path).to_csv(path, index=False)
     assert noskjerf("text", folder).out == T
+
+
+# Case T as docs/FORMAT.md works it in dollars and MW: 100 MW to 150 MW at 30 dollars, up to 300 MW at 90 dollars
+UNITS_OF_T = {
+    "month.csv": "month\n25\n",
+    "portfolio_seller.csv": "portfolio,seller\n0,1\n",
+    "resource_portfolio_start.csv": "resource,portfolio,start\n0,0,100.00\n",
+    "resource_end_price.csv": "resource,end,price\n0,150.00,30.00\n0,300.00,90.00\n",
+    "resource_mw_heat.csv": "resource,mw,heat\n0,100.00,10000\n0,200.00,9000\n0,300.00,9500\n",
+    "resource_gas_rate_allowance_om_msc_soc_fee.csv": "resource,gas,rate,allowance,om,msc,soc,fee\n0,4.00,0.0,0.00,2.00,0.10,0.30,0.005\n",
+    "constraint_shadow_1.csv": "constraint,shadow\n0,50.00\n",
+    "resource_lmp_dispatch_available_floor_1.csv": "resource,lmp,dispatch,available,floor\n0,60.00,200.00,300.00,0.00\n",
+    "resource_constraint_factor_1.csv": "resource,constraint,factor\n0,0,-0.5\n",
+    "parameter_1.csv": "parameter\n0.01\n",
+}
+
+
+def test_case_t_in_mw_and_dollars(tmp_path: Path) -> None:
+    assert noskjerf("tables", DATA / "T.txt", "-o", tmp_path / "t", "--units").status == 0
+    assert {path.name: path.read_text() for path in (tmp_path / "t").iterdir()} == UNITS_OF_T
+    done = noskjerf("text", tmp_path / "t", "--units")
+    assert (done.status, done.out) == (0, T)
+
+
+def test_tables_in_mw_and_dollars_are_never_taken_for_the_engines(tmp_path: Path) -> None:
+    """Whichever table is the only one in MW and dollars: all but the two without a unit."""
+    for i, (name, data) in enumerate(UNITS_OF_T.items()):
+        folder = tmp_path / str(i)
+        folder.mkdir()
+        for other, own in csv_files(read(T)).items():
+            (folder / other).write_text(data if other == name else own)
+        if name in ("month.csv", "portfolio_seller.csv"):
+            assert write(*from_folder(str(folder))).encode() == T
+        else:
+            with pytest.raises(Trouble, match=f"{name}, line 2: .*: write "):
+                from_folder(str(folder))
+
+
+def test_other_ways_to_write_mw_and_dollars(tmp_path: Path) -> None:
+    for name, data in UNITS_OF_T.items():
+        other = re.sub(r"\.00\b", "", data).replace(",0.0,", ",0,").replace("-0.5", "-5E-1").replace(",0.30", ", .3000 ")
+        (tmp_path / name).write_text(other)
+    assert noskjerf("text", tmp_path, "--units").out == T
+
+
+def test_pandas_may_have_written_mw_and_dollars(tmp_path: Path) -> None:
+    """Also 1e-06, which is how pandas writes a millionth."""
+    pandas = pytest.importorskip("pandas")
+    for name, data in UNITS_OF_T.items():
+        (tmp_path / name).write_text(data.replace("-0.5", "-0.000001"))
+        pandas.read_csv(tmp_path / name).to_csv(tmp_path / name, index=False)
+    assert "e-06" in (tmp_path / "resource_constraint_factor_1.csv").read_text()
+    assert noskjerf("text", tmp_path, "--units").out == T.replace(b"0 0 -500000", b"0 0 -1")
+
+
+def test_a_table_of_every_cent(tmp_path: Path) -> None:
+    """All prices from $0.00 to $999.99, and quantities from 0.01 MW to 1,000 MW."""
+    rows = [f"0,{(i + 1) // 100}.{(i + 1) % 100:02d},{i // 100}.{i % 100:02d}" for i in range(100_000)]
+    for name, data in {**UNITS_OF_T, "resource_end_price.csv": "\n".join(["resource,end,price", *rows, ""])}.items():
+        (tmp_path / name).write_text(data)
+    opening, intervals = from_folder(str(tmp_path), units=True)
+    assert [(step.end, step.price) for step in opening.resources[0].bid.steps] == [(i + 1, 100 * i) for i in range(100_000)]
+    again = csv_files(Parts(opening, tuple(intervals), None), units=True)
+    assert again["resource_end_price.csv"] == (tmp_path / "resource_end_price.csv").read_text()
+
+
+STEPS = "resource,end,price\n0,15000,300000\n"
+WHOLE = "; --units takes tables in MW and dollars"
+
+
+@pytest.mark.parametrize(
+    ("row", "told"),
+    [
+        ("0,300.00,40.00", "end is '300.00', and a whole number of hundredths of a MW is due: write 30000 for 300.00 MW, or 300 if it is in these units already" + WHOLE),
+        ("0,30000,64.29", "price is '64.29', and a whole number of units of 0.0001 dollar is due: write 642900 for 64.29 dollars" + WHOLE),
+        ("0,30000.,0", "end is '30000.', and a whole number of hundredths of a MW is due: write 3000000 for 30000. MW, or 30000 if it is in these units already" + WHOLE),
+        ("0,300.255,0", "end is '300.255', and a whole number of hundredths of a MW is due"),
+        ("0.0,30000,0", "resource is '0.0', and a whole number is due: write 0"),
+        ("0,3e4,0", "end is '3e4', and a whole number of hundredths of a MW is due: write 3000000 for 3e4 MW, or 30000 if it is in these units already" + WHOLE),
+        ("0,$300,0", "end is '$300', and a whole number of hundredths of a MW is due"),
+    ],
+)
+def test_a_decimal_point_in_the_engines_tables_says_what_to_write(row: str, told: str, folder: Path) -> None:
+    (folder / "resource_end_price.csv").write_text(STEPS + row + "\n")
+    done = noskjerf("text", folder)
+    assert (done.status, done.out) == (2, b"")
+    assert done.line == f"noskjerf: {folder / 'resource_end_price.csv'}, line 3: {told}"
+
+
+@pytest.mark.parametrize(
+    ("name", "old", "new", "told"),
+    [
+        ("resource_end_price.csv", "150.00", "150.001", "line 2: end is '150.001', and a number of MW with at most 2 decimal places is due, such as 0.25"),
+        ("resource_end_price.csv", "30.00", "30.00001", "line 2: price is '30.00001', and a number of dollars with at most 4 decimal places is due, such as 0.25"),
+        ("resource_end_price.csv", "90.00", "$90.00", "line 3: price is '$90.00', and a number of dollars with at most 4 decimal places is due, such as 0.25"),
+        ("resource_constraint_factor_1.csv", "-0.5", "-0.0000001", "line 2: factor is '-0.0000001', and a number with at most 6 decimal places is due, such as 0.25"),
+        ("resource_mw_heat.csv", "9500", "9500.0", "line 4: heat is '9500.0', and a whole number is due: write 9500"),
+        ("resource_end_price.csv", "90.00", "9" * 50, "line 3: price is '" + "9" * 40 + "', and a number of dollars with at most 4 decimal places is due, such as 0.25"),
+        ("resource_end_price.csv", "90.00", "", "line 3: price is '', and a number of dollars with at most 4 decimal places is due, such as 0.25"),
+    ],
+)
+def test_what_is_no_amount_names_the_cell(name: str, old: str, new: str, told: str, tmp_path: Path) -> None:
+    for each, data in UNITS_OF_T.items():
+        (tmp_path / each).write_text(data.replace(old, new) if each == name else data)
+    done = noskjerf("text", tmp_path, "--units")
+    assert (done.status, done.out) == (2, b"")
+    assert done.line == f"noskjerf: {tmp_path / name}, {told}"
+
+
+def test_a_missing_parameter_in_units(tmp_path: Path) -> None:
+    for name, data in UNITS_OF_T.items():
+        (tmp_path / name).write_text(data.replace("0.01", "-") if name == "parameter_1.csv" else data)
+    text = noskjerf("text", tmp_path, "--units").out
+    assert text == T.replace(b"\n100\n", b"\n-\n")
+    noskjerf("tables", "-o", tmp_path / "again", "--units", stdin=text)
+    assert (tmp_path / "again" / "parameter_1.csv").read_text() == "parameter\n-\n"
 
 
 def test_a_missing_parameter(folder: Path) -> None:

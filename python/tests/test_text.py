@@ -5,7 +5,8 @@ from __future__ import annotations
 from typing import Any
 
 import pytest
-from noskjerf import MAX_TEXT, Refusal, run
+from noskjerf import MAX_TEXT, Refusal, read, run
+from noskjerf.text import as_bytes
 
 from .cases import CASES, NAMED, Case, T, name_of, printed_again
 
@@ -90,6 +91,46 @@ def test_str_bytes_bytearray_and_memoryview_are_texts() -> None:
     texts: list[Any] = [T.decode(), bytearray(T), memoryview(T), memoryview(T[::-1])[::-1]]
     for text in texts:
         assert run(text) == expected
+
+
+class Longer(bytes):
+    """Bytes that say there are more of them than there are, or others."""
+
+    def __len__(self) -> int:
+        return 60_000
+
+    def __bytes__(self) -> bytes:
+        return self
+
+    def __getitem__(self, at: Any) -> Any:
+        return 0
+
+    def split(self, *parted: Any) -> Any:
+        return []
+
+
+class LongerArray(bytearray):
+    def __len__(self) -> int:
+        return 60_000
+
+    def __bytes__(self) -> bytes:
+        return Longer(b"month")
+
+
+class Encoded(str):
+    def encode(self, *how: Any) -> bytes:
+        return Longer(b"month")
+
+
+def test_a_text_cannot_lie_about_its_length() -> None:
+    """Else the engine would be lent bytes past the object's end."""
+    texts: list[Any] = [Longer(T), LongerArray(T), Encoded(T.decode())]
+    for text in texts:
+        assert len(text.encode() if isinstance(text, str) else text) == 60_000
+        assert type(as_bytes(text)) is bytes and as_bytes(text) == T
+        assert run(text) == run(T)
+        assert read(text) == read(T)
+    assert run(Longer(b"")).refusal == Refusal(17, "opening", 1)
 
 
 @pytest.mark.parametrize("text", [None, 0, 5, 10**30, 3.5, float("nan"), True, [], ["month"], [109, 10], {}, object(), str])

@@ -356,7 +356,7 @@ mod hours {
         }
     }
 
-    /// The refusal of an interval's values; or 0, and why it would cut each resource or not.
+    /// The refusal of an interval's values; or 0, and whether it would cap each resource's bid, and why.
     pub fn why(state: &State, interval: &Interval<'_>, causes: &mut [i64; CAUSES]) -> i64 {
         // SAFETY: each pointer comes with the length of its slice
         unsafe {

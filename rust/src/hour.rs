@@ -148,7 +148,8 @@ impl Costs {
 #[derive(Clone, Debug, Default, PartialEq, Eq)]
 pub struct Interval {
     shadow: Vec<i64>,
-    outputs: Vec<[i64; 4]>,
+    /// Locational price, dispatch, available and floor of each resource in turn.
+    outputs: Vec<i64>,
     factors: Vec<i64>,
     parameter: i64,
 }
@@ -170,7 +171,7 @@ impl Interval {
     /// that can't be withheld.
     #[must_use]
     pub fn resource(mut self, lmp: i64, dispatch: i64, available: i64, floor: i64) -> Interval {
-        self.outputs.push([lmp, dispatch, available, floor]);
+        self.outputs.extend([lmp, dispatch, available, floor]);
         self
     }
 
@@ -194,12 +195,17 @@ impl Interval {
         self
     }
 
+    /// How many resources it has.
+    fn resources(&self) -> usize {
+        self.outputs.len() / 4
+    }
+
     /// What the engine takes.
     fn numbers(&self) -> ffi::Interval<'_> {
         ffi::Interval {
             shadow: &self.shadow,
-            resources: self.outputs.len(),
-            outputs: self.outputs.as_flattened(),
+            resources: self.resources(),
+            outputs: &self.outputs,
             factors: &self.factors,
             parameter: self.parameter,
         }
@@ -221,10 +227,10 @@ pub struct Verdict {
     pub sellers: Vec<Seller>,
 }
 
-/// Why an interval cuts a resource's bid, or does not.
+/// Whether an interval caps a resource's bid, and why.
 ///
-/// It does where the resource is dispatched and its component is above 0. Each quantity's cap is then the higher of its default price and the
-/// floor price.
+/// A cap applies where the resource is dispatched and its component is above 0. Each quantity's cap is then the higher of its default price and
+/// the floor price. It may lie above the price that it caps, which then stays: whether a bid is cut is seen by its curve before and after.
 #[derive(Clone, Copy, Debug, PartialEq, Eq)]
 pub struct Cause {
     /// The resource.
@@ -233,8 +239,15 @@ pub struct Cause {
     pub component: i64,
     /// The locational price less C, up.
     pub competitive_price: i64,
-    /// L, the competitive price with the parameter added, where the interval cuts the bid.
+    /// L, the competitive price with the parameter added, where a cap applies.
     pub floor_price: Option<i64>,
+}
+
+impl Cause {
+    /// Whether a cap applies.
+    pub fn capped(&self) -> bool {
+        self.floor_price.is_some()
+    }
 }
 
 /// A bid curve as it stands in an hour. One of a resource that the hour doesn't have has no steps.
@@ -266,8 +279,9 @@ pub struct BidCurve {
 ///     .factor(0, 0, -500000)
 ///     .parameter(100);
 ///
-/// // why it cuts resource 0: the component is 250000, in millionths, so that the floor price is 600000 - 250000 + 100
+/// // a cap applies to resource 0: the component is 250000, in millionths, so that the floor price is 600000 - 250000 + 100
 /// let cause = hour.why(&interval)?[0];
+/// assert!(cause.capped());
 /// assert_eq!(cause.component, 250000 * 1000000);
 /// assert_eq!(cause.floor_price, Some(350100));
 ///
@@ -333,12 +347,12 @@ impl Hour {
         Ok(verdicts(&numbers, pass.shadow.len()))
     }
 
-    /// Why an interval, or a pass, of these values cuts each resource of the hour or not, whether its turn has come or not. The hour isn't
-    /// changed. The refusal is the lowest of 13 to 16.
+    /// Whether an interval, or a pass, of these values caps the bid of each resource of the hour, and why, whether its turn has come or not.
+    /// The hour isn't changed. The refusal is the lowest of 13 to 16.
     pub fn why(&self, interval: &Interval) -> Result<Vec<Cause>, Refused> {
         let mut numbers = [0; CAUSES];
         answered(ffi::why(&self.cells, &interval.numbers(), &mut numbers))?;
-        let causes = numbers.chunks_exact(CAUSE).take(interval.outputs.len());
+        let causes = numbers.chunks_exact(CAUSE).take(interval.resources());
         Ok(causes.enumerate().map(cause).collect())
     }
 

@@ -45,14 +45,27 @@
 //! assert_eq!(prices, [300000, 378402, 444403, 488402]);
 //! ```
 //!
-//! [`Hour`] drives an hour in numbers, without a text: intervals, five-minute passes, curves, one bid for the hour, and why a bid was cut.
-//! [`TextHour`] drives one by the text of its parts. [`judgement`] judges one bid or works out one default energy bid, and [`gas`] takes the
-//! gas price for it from a book of published prices.
+//! [`Hour`] drives an hour in numbers, without a text: intervals, five-minute passes, curves, one bid for the hour, and whether and why a cap
+//! applies. [`TextHour`] drives one by the text of its parts. [`judgement`] judges one bid or works out one default energy bid, and [`gas`]
+//! takes the gas price for it from a book of published prices.
 //!
 //! # Building
 //!
-//! The engine is a static library, `libnoskjerf.a`, which `./archive` writes to the project's `target/lib`. It is looked for there, or in the
-//! folder that the environment variable `NOSKJERF_LIB` names as an absolute path.
+//! The engine is a static library for Linux on x86-64, `libnoskjerf.a`, which `./archive` writes to the project's `target/lib`. The crate
+//! needs Rust 1.63 and no other crate. A program outside the project names the crate's folder in its `Cargo.toml`:
+//!
+//! ```toml
+//! [dependencies]
+//! noskjerf = { path = "../noskjerf/rust" }
+//! ```
+//!
+//! The library is looked for in `target/lib` beside that folder. Where it stands elsewhere, the environment variable `NOSKJERF_LIB` names its
+//! folder as an absolute path. A program that has a copy in its own folder `lib` says so in its `.cargo/config.toml`:
+//!
+//! ```toml
+//! [env]
+//! NOSKJERF_LIB = { value = "lib", relative = true }
+//! ```
 //!
 //! # Units
 //!
@@ -61,7 +74,7 @@
 //!
 //! # Threads
 //!
-//! The engine keeps nothing between calls; any number of threads may call it at once. A call takes at most 128 KB of stack, less than Rust
+//! The engine keeps nothing between calls; any number of threads may call it at once. A call takes at most 144 KB of stack, less than Rust
 //! gives a thread (2 MiB); a thread made with a smaller one should have 1 MiB.
 
 #![deny(unsafe_code)]

@@ -143,12 +143,12 @@ fn read(bytes: &[u8]) -> Option<Vec<Page>> {
 fn page(lines: &mut Peekable<Lines<'_>>) -> Option<Page> {
     let verdicts = table(lines, VERDICTS)?;
     let sellers = table(lines, SELLERS)?;
-    let curves: Vec<[i64; 4]> = table(lines, CURVES)?;
+    let steps: Vec<[i64; 4]> = table(lines, CURVES)?;
     Some(Page {
-        interval: curves.first()?[0].try_into().ok()?,
+        interval: steps.first()?[0].try_into().ok()?,
         verdicts: verdicts.into_iter().map(verdict).collect::<Option<_>>()?,
         sellers: sellers.into_iter().map(seller).collect::<Option<_>>()?,
-        curves: curves.chunk_by(|a, b| a[1] == b[1]).map(curve).collect::<Option<_>>()?,
+        curves: curves(&steps)?,
     })
 }
 
@@ -184,6 +184,17 @@ fn seller([_, constraint, portfolio, withheld]: [i64; 4]) -> Option<Seller> {
         portfolio: portfolio.try_into().ok()?,
         withheld: withheld.try_into().ok()?,
     })
+}
+
+/// The curves of the lines, in which those of a resource stand together.
+fn curves(mut rows: &[[i64; 4]]) -> Option<Vec<Curve>> {
+    let mut curves = Vec::new();
+    while let Some(first) = rows.first() {
+        let (own, rest) = rows.split_at(rows.iter().take_while(|row| row[1] == first[1]).count());
+        curves.push(curve(own)?);
+        rows = rest;
+    }
+    Some(curves)
 }
 
 /// The curve of the lines of one resource.

@@ -15,7 +15,7 @@ struct Case {
 fn cases() -> Vec<Case> {
     let folder = Path::new(env!("CARGO_MANIFEST_DIR")).join("../crates/text_cases/data");
     let files = fs::read_dir(folder).unwrap().map(|file| file.unwrap().path());
-    let mut texts: Vec<PathBuf> = files.filter(|path| path.extension().is_some_and(|end| end == "txt")).collect();
+    let mut texts: Vec<PathBuf> = files.filter(|path| path.extension() == Some("txt".as_ref())).collect();
     texts.sort();
     texts.into_iter().map(case).collect()
 }
@@ -124,13 +124,15 @@ fn printouts_of_one_hour_do_not_differ() {
         let printed = print(&case.text);
         assert_eq!(print(&case.text), printed, "{}", case.name);
         let pieces = pieces(&case.text);
-        let Ok(mut hour) = TextHour::open(&pieces[0]) else {
-            continue;
+        let mut hour = match TextHour::open(&pieces[0]) {
+            Ok(hour) => hour,
+            Err(_) => continue,
         };
         let mut pages = String::new();
         for piece in &pieces[1..] {
-            let Ok(page) = hour.interval(piece) else {
-                break;
+            let page = match hour.interval(piece) {
+                Ok(page) => page,
+                Err(_) => break,
             };
             pages += &page_text(&page);
             assert_eq!(print(hour.text()), pages.as_bytes(), "{}", case.name);

@@ -293,7 +293,7 @@ fn factors_outside_the_interval_mean_nothing() {
     assert_eq!(hour.why(&plain), hour.why(&plain.clone().factor(0, 0, 7).factor(0, 0, -500000)));
 }
 
-/// P7: with C = 1 the floor price is the locational price and the parameter; C = 0 makes no cut, and neither does a dispatch of 0.
+/// P7: with C = 1 the floor price is the locational price and the parameter; with C = 0 no cap applies, nor with a dispatch of 0.
 #[test]
 fn why() {
     let hour = opened();
@@ -311,9 +311,23 @@ fn why() {
     assert_eq!(cause(smallest.constraint(0).factor(0, 1, -1)), of(1, 500, Some(507)));
 }
 
+/// P8: a bid of 300000 below its cap, the default price. A cap applies, and nothing is cut.
+#[test]
+fn a_cap_that_changes_nothing() {
+    let low = Resource::new(0, 10000).step(30000, 300000).costs(costs_of_t());
+    let mut hour = Hour::open(&opening(low)).unwrap();
+    let cause = hour.why(&interval_of_t()).unwrap()[0];
+    assert!(cause.capped());
+    assert_eq!(cause.floor_price, Some(350100));
+    let bid = hour.curve(0);
+    hour.interval(&interval_of_t()).unwrap();
+    assert_eq!(hour.curve(0), bid);
+    assert_eq!((bid.steps.len(), bid.steps[0].price), (1, 300000));
+}
+
 /// The second resource isn't dispatched; the third loads the constraint.
 #[test]
-fn why_a_resource_is_not_cut() {
+fn why_no_cap_applies() {
     let resource = || bid_of_t().costs(costs_of_t());
     let hour = Hour::open(&opening(resource()).resource(resource()).resource(resource())).unwrap();
     let interval = interval_of_t()
@@ -326,6 +340,7 @@ fn why_a_resource_is_not_cut() {
         .iter()
         .map(|cause| (cause.resource, cause.component, cause.competitive_price, cause.floor_price))
         .collect();
+    assert_eq!(causes.iter().map(Cause::capped).collect::<Vec<_>>(), [true, false, false]);
     let expected = [
         (0, 250_000_000_000, 350000, Some(350100)),
         (1, 250_000_000_000, 350000, None),

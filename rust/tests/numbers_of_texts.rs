@@ -12,7 +12,7 @@ type Table = Vec<Vec<i64>>;
 fn texts() -> Vec<String> {
     let folder = Path::new(env!("CARGO_MANIFEST_DIR")).join("../crates/text_cases/data");
     let paths = fs::read_dir(folder).unwrap().map(|file| file.unwrap().path());
-    let texts = paths.filter(|path| path.extension().is_some_and(|end| end == "txt"));
+    let texts = paths.filter(|path| path.extension() == Some("txt".as_ref()));
     texts.filter_map(|path| fs::read_to_string(path).ok()).collect()
 }
 
@@ -48,9 +48,8 @@ fn own(table: &Table, resource: i64) -> impl Iterator<Item = &Vec<i64>> {
 }
 
 fn resource(tables: &[Table], row: &[i64]) -> Resource {
-    let [_, gas, rate, allowance, om, msc, soc, fee] = tables[5][row[0] as usize][..] else {
-        panic!("a line of costs");
-    };
+    let costs: [i64; 8] = tables[5][row[0] as usize][..].try_into().expect("a line of costs");
+    let [_, gas, rate, allowance, om, msc, soc, fee] = costs;
     let charges = Charges {
         gas,
         rate,
@@ -124,8 +123,9 @@ fn compare(text: &str) -> [usize; 4] {
     let numbers = Hour::open(&opening(&parts[0]));
     let told = opened.as_ref().err().map(|refusal| refusal.number);
     assert_eq!(numbers.as_ref().err().map(|refused| refused.number), told, "{text}");
-    let (Ok(mut by_text), Ok(mut hour)) = (opened, numbers) else {
-        return [0, 1, 0, 0];
+    let (mut by_text, mut hour) = match (opened, numbers) {
+        (Ok(by_text), Ok(hour)) => (by_text, hour),
+        _ => return [0, 1, 0, 0],
     };
     let mut counts = [1, 0, 0, 0];
     for part in &parts[1..] {

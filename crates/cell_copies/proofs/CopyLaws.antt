@@ -10,7 +10,7 @@ use lib.IntN.{ℤ, pos}
 use lib.ListN.{length, drop, getD, set, drop-of-length-le, List·getD-eq-default}
 use lib.Seq.{sets}
 use Rattle.rules_number.specs.Over.{listed, upTo}
-use Rattle.rules_number.proofs.OverLaws.{le-or-lt, listed-same, upTo-length, upTo-step, upTo-in}
+use Rattle.rules_number.proofs.OverLaws.{le-or-lt, upTo-length, upTo-step, upTo-in}
 use Rattle.rules_number.proofs.ListedLaws.{listed-is}
 use Rattle.rules_text.proofs.ListLaws.{at-cons}
 use Rattle.rules_library.specs.Slices.{cellAt}
@@ -59,7 +59,3 @@ module _ {A : Type 0} (l out whole : List A) (i at : ℕ) (e : sets out (at + i)
 
       past : i < length l → out ≡ whole
       past g = sym (sets-out out (at + i) (drop i l) (omega arith)) ∙ e
-
--- the numbers from the first on
-pub from-first : (l : List ℤ) (n : ℕ) → listed (λ k. cellAt l (0 + k)) n ≡ listed (cellAt l) n
-from-first l n = listed-same (λ k. cellAt l (0 + k)) (cellAt l) n (λ k h. ap (cellAt l) (zero-add k))

@@ -71,7 +71,7 @@ pub fn put_mitigated(edges: &mut [u64], prices: &mut [i64], curve: Mitigated)
     );
 }
 
-// A default curve.
+// A default curve; of a count past its room, the steps that it has.
 pub fn put_default(edges: &mut [u64], prices: &mut [i64], default: Curve)
     ensures edges { λ x. ⌜ now (edges .exit) ≡ sets (now (edges .entry)) 0 (edgesOf default) ⌝ }
     ensures prices { λ x. ⌜ now (prices .exit) ≡ sets (now (prices .entry)) 0 (pricesOf default) ⌝ }
@@ -81,7 +81,7 @@ pub fn put_default(edges: &mut [u64], prices: &mut [i64], default: Curve)
     put_curve(
         edges,
         prices,
-        default.count,
+        number::at_most(default.count, Curve::MAX_STEPS),
         default.start,
         wide,
         Curve::MAX_STEPS,

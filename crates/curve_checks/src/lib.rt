@@ -1,7 +1,10 @@
 // The checks 1 to 3 of a curve as it is read (paper 01, Curve; Refused, by place). The contracts cite the definitions of rules_curve.
+ghost use mathlib.Core.Logic.{_↔_};
 ghost use mathlib.Core.Path.{_≡_};
-ghost use Prim.Native.Nat.{_≤_};
+ghost use Prim.Native.Nat.{ℕ, _≤_};
 ghost use lib.ListN.{length};
+ghost use Rattle.rules_curve.specs.Conditions.{bidDemands, defaultDemands};
+ghost use Rattle.rules_curve.specs.Demands.{First};
 ghost use Rattle.rules_curve.specs.Refusals.{outcomeNumber};
 ghost use Rattle.rules_curve.specs.Curves.{mostSteps, rawSteps, stepOf, curveOf, edgesGood, pricesGood, curveRefusal, checkedCurve, bidRefusal, checkedBid, defaultRefusal, checkedDefault};
 use rules_curve::Checked;
@@ -126,10 +129,11 @@ pub fn checked(raw: RawCurve, most: usize, low: i64, top: i64) -> Checked
     }
 }
 
-// A bid, by month since the rule took effect.
+// A bid, by month since the rule took effect; the number is that of the first of the paper's demands that it doesn't meet, and 0 exactly when it meets all.
 pub fn checked_bid(raw: RawCurve, month: u64) -> Checked
     ensures number { λ r. ⌜ outcomeNumber (r .outcome) ≡ bidRefusal month raw ⌝ }
     ensures curve { λ r. ⌜ r .curve ≡ checkedBid month raw ⌝ }
+    ensures exactly { λ r. ⌜ ((n : ℕ) → (outcomeNumber (r .outcome) ≡ n) ↔ First n (bidDemands month raw)) ⌝ }
 {
     checked(
         raw,
@@ -139,10 +143,11 @@ pub fn checked_bid(raw: RawCurve, month: u64) -> Checked
     )
 }
 
-// A default curve from a pack.
+// A default curve from a pack, and its number likewise.
 pub fn checked_default(raw: RawCurve) -> Checked
     ensures number { λ r. ⌜ outcomeNumber (r .outcome) ≡ defaultRefusal raw ⌝ }
     ensures curve { λ r. ⌜ r .curve ≡ checkedDefault raw ⌝ }
+    ensures exactly { λ r. ⌜ ((n : ℕ) → (outcomeNumber (r .outcome) ≡ n) ↔ First n (defaultDemands raw)) ⌝ }
 {
     checked(
         raw,

@@ -1,6 +1,7 @@
 -- Laws of the hour that cells stand for: of zeros, an opened hour, and the hour after a call. Assumes nothing.
 use mathlib.Core.Bool.{true, false}
 use mathlib.Core.List.{List, [], _++_, flatMap}
+use mathlib.Core.Logic.{_↔_}
 use mathlib.Core.Path.{_≡_, refl, sym, ap, _∙_}
 use Prim.Native.Nat.{ℕ, zero, suc, _+_, _≤_, _<_}
 use native.Mathlib.Omega.{arith}
@@ -9,9 +10,12 @@ use lib.ListN.{length, replicate, length-append, length-replicate}
 use lib.Seq.{sets}
 use Rattle.rules_number.specs.Over.{listed, padded}
 use Rattle.rules_curve.specs.Curves.{blankCurve}
+use Rattle.rules_curve.specs.Demands.{First}
 use Rattle.rules_interval.specs.declared.Interval.{Interval}
-use Rattle.rules_opening.specs.Openings.{openingRefusal}
+use Rattle.rules_opening.specs.Conditions.{openingDemands, EachFull}
+use Rattle.rules_opening.specs.Openings.{noResource, openingRefusal}
 use Rattle.rules_opening.specs.declared.Opening.{Opening}
+use Rattle.rules_opening.proofs.Exactly.{opening-exactly}
 use Rattle.rules_hour.specs.Hours.{freshStanding, blankHour, callRefusal}
 use Rattle.rules_hour.specs.Opened.{freshHour, openedHour, hourUnless}
 use Rattle.rules_hour.proofs.AcceptedOpening.{few}
@@ -19,13 +23,14 @@ use Rattle.rules_pass.specs.Passes.{RealTimeHour, freshQuarter, turnRefusal, bl
 use Rattle.rules_library.specs.Slices.{cellAt, ifWritten}
 use Rattle.rules_state.specs.Calls.{stateAfterInterval, intervalWritten, stateAfterPass, passWritten}
 use Rattle.rules_state.specs.Fits.{Each}
-use Rattle.rules_state.specs.Layout.{mostResources, mostPortfolios, stateRoom, verdictRoom}
+use Rattle.rules_state.specs.Layout.{mostResources, mostPortfolios, stateRoom, hourRoom, verdictRoom}
 use Rattle.rules_state.specs.Openings.{openingIn}
-use Rattle.rules_state.specs.OpenedInto.{openedInto}
+use Rattle.rules_state.specs.OpenedInto.{intoAnswer, openedInto}
 use Rattle.rules_state.specs.States.{floorsIn, standingIn, quarterIn, wholesIn, marketIn, curveInCells, rowIn, rowsIn, hourIn, stateCells}
 use Rattle.rules_state.specs.Takes.{ifAccepted}
-use Rattle.rules_state.proofs.OpenedLaws.{opened-into, opened-is, opened-back}
+use Rattle.rules_state.proofs.OpenedLaws.{into-answer, opened-into, opened-is, opened-back}
 use Rattle.rules_state.proofs.SameCells.{standing-same, quarter-same, market-same, rows-same}
+use Rattle.rules_state.proofs.StandLaws.{each-at}
 use Rattle.rules_state.proofs.StateCalls.{interval-answer, pass-answer, state-interval, state-pass}
 use Rattle.opening_puts.specs.Blocks.{blocksRoom, blockNumbers, Rooms}
 use Rattle.opening_puts.proofs.BackLaws.{heldOpening, opening-back}
@@ -64,6 +69,14 @@ module _ (o : Opening) where
       go zero k = absurd (omega arith)
       go (suc n) k = refl
 
+  -- its arrays are as long as their types say, so that it is refused with n exactly when n is the number of the first demand that it does not meet
+  module _ (many : length (o .list) ≡ mostResources) (rooms : Each Rooms (o .list)) where
+    full-by-value : EachFull o
+    full-by-value r h low = let x = each-at Rooms (o .list) r noResource rooms (omega arith) in record { bid = x .bid; pack = x .pack }
+
+    pub opening-exactly-by-value : (n : ℕ) → (openingRefusal o ≡ n) ↔ First n (openingDemands o)
+    opening-exactly-by-value = opening-exactly o full-by-value
+
   -- the opening that its blocks are read as
   module _ (sellers : length (o .sellers) ≡ mostPortfolios) (many : length (o .list) ≡ mostResources) (rooms : Each Rooms (o .list)) (blocks : List ℤ)
       (put : blocks ≡ sets (replicate blocksRoom (pos 0)) 0 (flatMap blockNumbers (o .list))) where
@@ -76,15 +89,22 @@ module _ (o : Opening) where
     pub read-number : openingRefusal read ≡ openingRefusal o
     read-number = ap openingRefusal back ∙ opening-number o
 
+    pub room : hourRoom (read .resources) ≤ length (replicate stateRoom (pos 0))
+    room = omega (arith, length-replicate stateRoom (pos 0))
+
+    -- the number that opening in a whole hour's cells answers
+    pub answered : (z : ℤ) → z ≡ intoAnswer (replicate stateRoom (pos 0)) read → z ≡ pos (openingRefusal o)
+    answered z e = e ∙ into-answer read (replicate stateRoom (pos 0)) room ∙ ap pos read-number
+
     pub opened : openingRefusal o ≡ 0 → (cells : List ℤ) → cells ≡ openedInto read (replicate stateRoom (pos 0)) → hourIn cells ≡ openedRealTime o
     opened z cells e =
         let accepted = read-number ∙ z in
-        ap hourIn (e ∙ opened-into read accepted (replicate stateRoom (pos 0))) ∙ opened-back read accepted stateRoom (omega (arith, few read accepted .2)) ∙ ap openedRealTime back ∙ opening-same o
+        ap hourIn (e ∙ opened-into read (replicate stateRoom (pos 0)) room accepted) ∙ opened-back read accepted stateRoom (omega (arith, few read accepted .2)) ∙ ap openedRealTime back ∙ opening-same o
 
     pub cells-opened : openingRefusal o ≡ 0 → (cells : List ℤ) → cells ≡ openedInto read (replicate stateRoom (pos 0)) → cells ≡ stateCells (openedRealTime o)
     cells-opened z cells e =
         let accepted = read-number ∙ z in
-        e ∙ opened-into read accepted (replicate stateRoom (pos 0)) ∙ opened-is read accepted stateRoom (omega (arith, few read accepted .2)) refl
+        e ∙ opened-into read (replicate stateRoom (pos 0)) room accepted ∙ opened-is read accepted stateRoom (omega (arith, few read accepted .2)) refl
         ∙ ap (λ (x : Opening). stateCells (openedRealTime x)) back ∙ ap stateCells (opening-same o)
 
 -- ---- a call

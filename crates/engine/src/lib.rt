@@ -1,16 +1,21 @@
 // Opening an hour, taking its intervals and their passes, and its bids (paper 01, Interval and hour; 31.2.3, 34.1.5; Refused, by place: 9 to 16; paper 02, 2.1 and 2.2:
 // 19 and 20). The contracts cite the definitions of rules_hour, rules_pass and rules_hour_bid; specs/Hours says which hour the struct stands for.
+ghost use mathlib.Core.Logic.{_↔_};
 ghost use mathlib.Core.Path.{_≡_};
 ghost use mathlib.Core.Bool.{true, false};
+ghost use Prim.Native.Nat.{ℕ};
 ghost use lib.IntN.{pos};
 ghost use lib.ListN.{replicate};
+ghost use Rattle.rules_curve.specs.Demands.{First};
 ghost use Rattle.rules_curve.specs.Refusals.{outcomeNumber};
+ghost use Rattle.rules_opening.specs.Conditions.{openingDemands};
 ghost use Rattle.rules_opening.specs.Openings.{openingRefusal};
 ghost use Rattle.rules_hour.specs.Hours.{curveIn, hourRefusal, hourVerdicts};
 ghost use Rattle.rules_pass.specs.Passes.{blankRealTime, openedRealTime, intervalAfter, passRefusal, passAfter, passVerdicts, fiveMinuteIn};
 ghost use Rattle.rules_path.specs.Judgements.{verdictsOf, verdictsUnless};
 ghost use Rattle.rules_hour_bid.specs.HourBids.{hourBidRefusal, hourBidOf};
 ghost use Rattle.rules_state.specs.Layout.{stateRoom};
+ghost use Rattle.rules_state.specs.Calls.{calledNumber};
 ghost use Rattle.rules_state.specs.States.{marketIn, stateCells};
 ghost use Rattle.rules_state.specs.Takes.{ifAccepted};
 ghost use Rattle.hour_cells.specs.Calls.{refusalBy, writtenBy};
@@ -25,6 +30,7 @@ use rules_mitigation::Mitigated;
 use rules_opening::Opening;
 use rules_pass::Quarter;
 use rules_path::Verdict;
+use rules_state::Called;
 
 // An hour, as the cells of rules_state: its standing, the quarter hour that runs, who owns what, and its resources. Every content of them has a meaning.
 pub struct Hour {
@@ -60,6 +66,16 @@ fn outputs_of<'a>(
     outputs
 }
 
+// What is answered of the cells of a whole hour, which are never too few: an outcome.
+fn outcome_of(called: Called) -> Outcome
+    ensures { λ r. ⌜ ((n : ℕ) → calledNumber called ≡ pos n → outcomeNumber r ≡ n) ⌝ }
+{
+    let Called::Done(outcome) = called else {
+        return Outcome::Refused(Refusal::Counts);
+    };
+    outcome
+}
+
 // What opening answers: the fresh hour, or a blank one and the refusal.
 pub struct Opened {
     pub outcome: Outcome,
@@ -84,11 +100,12 @@ impl Hour {
         }
     }
 
-    // The freshly opened hour, or the first refusal.
+    // The freshly opened hour, or the first refusal: the number of the first of the paper's demands that the opening doesn't meet, and 0 exactly when it meets all.
     pub fn open(o: Opening) -> Opened
         ensures number { λ r. ⌜ outcomeNumber (r .outcome) ≡ openingRefusal o ⌝ }
         ensures hour { λ r. ⌜ asRealTime (r .hour) ≡ openedRealTime o ⌝ }
         ensures cells { λ r. ⌜ r .hour .cells ≡ ifAccepted (openingRefusal o) (stateCells (openedRealTime o)) (replicate stateRoom (pos 0)) ⌝ }
+        ensures exactly { λ r. ⌜ ((n : ℕ) → (outcomeNumber (r .outcome) ≡ n) ↔ First n (openingDemands o)) ⌝ }
     {
         let sellers = o.sellers;
         let list = o.list;
@@ -96,7 +113,7 @@ impl Hour {
         opening_puts::put_blocks(&mut blocks, list);
         let mut cells = [0i64; rules_state::STATE_ROOM];
         let month = o.month;
-        let outcome = opening_cells::open_into(
+        let called = opening_cells::open_into(
             month,
             o.portfolios,
             &sellers,
@@ -104,6 +121,7 @@ impl Hour {
             &blocks,
             &mut cells,
         );
+        let outcome = outcome_of(called);
         let Outcome::Accepted = outcome else {
             return Opened {
                 outcome: outcome,
@@ -160,7 +178,7 @@ impl Hour {
         let mut found = taking::none_found();
         let outputs = outputs_of(&v.lmp, &v.dispatch, &v.available, &v.floor);
         let parameter = v.parameter;
-        let outcome = hour_cells::call_into(
+        let called = hour_cells::call_into(
             &mut cells,
             pass,
             v.constraints,
@@ -171,6 +189,7 @@ impl Hour {
             parameter,
             &mut found,
         );
+        let outcome = outcome_of(called);
         Answer {
             outcome: outcome,
             hour: Hour { cells },

@@ -5,7 +5,7 @@ use rules_gas::GasPrice;
 ghost use mathlib.Core.Path.{_≡_};
 ghost use Prim.Native.Nat.{_≤_};
 ghost use lib.ListN.{length};
-ghost use Rattle.rules_gas.specs.Book.{runLength, daysRise, runIn, gasRun, lastPrice, priceInUse};
+ghost use Rattle.rules_gas.specs.Book.{runLength, daysRise, runIn, gasRun, runRefusal, bookRefusal, gasNumber, lastPrice, priceInUse};
 
 // How many numbers of a list, two for each entry, belong to entries up to a day, before the first later one.
 fn length_to(list: &[u32], day: u32) -> usize
@@ -69,9 +69,10 @@ pub fn run_of<'a>(
     }
 }
 
-// The price of the last entry of a run; none of an empty one.
+// The price of the last entry of a run; none, which is 21, of an empty one.
 pub fn price_of(run: &[u32]) -> GasPrice
-    ensures { λ r. ⌜ r ≡ lastPrice (now (run .entry)) ⌝ }
+    ensures price { λ r. ⌜ r ≡ lastPrice (now (run .entry)) ⌝ }
+    ensures number { λ r. ⌜ gasNumber r ≡ runRefusal (now (run .entry)) ⌝ }
 {
     let n = run.len();
     if n == 0 {
@@ -80,14 +81,15 @@ pub fn price_of(run: &[u32]) -> GasPrice
     GasPrice::Is(run[n - 1])
 }
 
-// The gas price in use on a trading day.
+// The gas price in use on a trading day; none, which is 21, where the run is empty.
 pub fn price_in_use<'a>(
     day_ahead: &'a [u32],
     real_time: &'a [u32],
     market: GasMarket,
     day: u32,
 ) -> GasPrice
-    ensures { λ r. ⌜ r ≡ priceInUse market day (now («day_ahead» .entry)) (now («real_time» .entry)) ⌝ }
+    ensures price { λ r. ⌜ r ≡ priceInUse market day (now («day_ahead» .entry)) (now («real_time» .entry)) ⌝ }
+    ensures number { λ r. ⌜ gasNumber r ≡ bookRefusal market day (now («day_ahead» .entry)) (now («real_time» .entry)) ⌝ }
 {
     price_of(run_of(day_ahead, real_time, market, day))
 }

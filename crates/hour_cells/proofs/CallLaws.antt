@@ -2,10 +2,11 @@
 use mathlib.Core.Bool.{Bool, true, false}
 use mathlib.Core.List.{List, [], _∷_}
 use mathlib.Core.Path.{_≡_, refl, sym, ap, _∙_}
-use Prim.Native.Nat.{ℕ, zero, suc, _<_}
+use Prim.Native.Nat.{ℕ, zero, suc, _≤_, _<_}
 use native.Mathlib.Omega.{arith}
-use lib.IntN.{ℤ}
-use lib.ListN.{getD}
+use borrow.Author.Tests.{le-leb, lt-leb}
+use lib.IntN.{ℤ, pos, negsuc}
+use lib.ListN.{length, getD}
 use lib.Seq.{sets}
 use Rattle.rules_number.specs.Over.{padded}
 use Rattle.rules_curve.specs.Curves.{blankCurve}
@@ -19,14 +20,15 @@ use Rattle.rules_hour.specs.declared.Floor.{Floor}
 use Rattle.rules_pass.specs.Passes.{freshQuarter}
 use Rattle.rules_pass.specs.declared.Quarter.{Quarter}
 use Rattle.rules_state.specs.Calls.{intervalWritten}
-use Rattle.rules_state.specs.Layout.{quarterFrom}
+use Rattle.rules_library.specs.Slices.{ifWritten}
+use Rattle.rules_state.specs.Layout.{quarterFrom, stateRoom}
 use Rattle.rules_state.specs.States.{standingIn, quarterIn, marketIn, quarterCells}
 use Rattle.rules_state.specs.Takes.{ifAccepted, standingWritten}
 use Rattle.rules_state.specs.Verdicts.{judgedCells}
 use Rattle.rules_state.proofs.TakeLaws.{written-zero}
 use Rattle.rules_state.proofs.WrittenSlices.{sound-call, sound-turn}
 use Rattle.cutting.proofs.AlikeLaws.{Alike, call-same, call-begins, call-verdicts, turn-same, turn-state, turn-verdicts}
-use Rattle.hour_cells.specs.Calls.{refusalBy, writtenBy}
+use Rattle.hour_cells.specs.Calls.{refusalBy, answerIn, writtenBy}
 
 -- ---- a blank row has the curve of none
 pub row-same : (l : List Row) (r : ℕ) (k : Floor) → rowCurve (getD l r blankRow) k ≡ rowCurve (getD l r noRow) k
@@ -67,3 +69,32 @@ pub alike-called : (pass : Bool) (l k : List ℤ) (v w : Interval) → Alike (ma
 unfolding refusalBy writtenBy
 alike-called true l k v w a n s t h = (h .0 ∙ turn-same v w l a, (h .1 .0 ∙ turn-state v w l a, h .1 .1 ∙ turn-verdicts v w l a k))
 alike-called false l k v w a n s t h = (h .0 ∙ call-same v w l a, (h .1 .0 ∙ call-begins v w l a, h .1 .1 ∙ call-verdicts v w l a k))
+
+-- ---- by the room of the cells
+module _ (pass : Bool) (l k : List ℤ) (v : Interval) where
+  -- what a call promises of its answer, of the cells and of the verdicts' cells
+  abbrev pub Answers : ℤ → List ℤ → List ℤ → Type 0
+  Answers z s t = (z ≡ answerIn pass l v) × ((s ≡ ifWritten (answerIn pass l v) (writtenBy pass l v) l) × (t ≡ ifWritten (answerIn pass l v) (sets k 0 (judgedCells (marketIn l) v)) k))
+
+  written-so : {A : Type 0} (n : ℕ) (a b : List A) → ifAccepted n a b ≡ ifWritten (pos n) a b
+  written-so zero a b = refl
+  written-so (suc n) a b = refl
+
+  pub few-cells : length l < stateRoom → Answers (negsuc 0) l k
+  unfolding answerIn
+  few-cells h = rw (lt-leb stateRoom (length l) h) (refl, (refl, refl))
+
+  module _ (h : stateRoom ≤ length l) where
+    long-answer : answerIn pass l v ≡ pos (refusalBy pass l v)
+    unfolding answerIn
+    long-answer = rw (le-leb stateRoom (length l) h)
+
+    by-room : {A : Type 0} (a b : List A) → ifAccepted (refusalBy pass l v) a b ≡ ifWritten (answerIn pass l v) a b
+    by-room a b = written-so (refusalBy pass l v) a b ∙ ap (λ (z : ℤ). ifWritten z a b) (sym long-answer)
+
+    -- in the cells of a whole hour the answer is the outcome's
+    pub whole-cells : (n : ℕ) (s t : List ℤ) → Called pass l k v n s t → Answers (pos n) s t
+    whole-cells n s t m = (ap pos (m .0) ∙ sym long-answer, (m .1 .0 ∙ by-room (writtenBy pass l v) l, m .1 .1 ∙ by-room (sets k 0 (judgedCells (marketIn l) v)) k))
+
+    pub in-whole : (z : ℤ) (s t : List ℤ) → Answers z s t → (z ≡ pos (refusalBy pass l v)) × Called pass l k v (refusalBy pass l v) s t
+    in-whole z s t m = (m .0 ∙ long-answer, (refl, (m .1 .0 ∙ sym (by-room (writtenBy pass l v) l), m .1 .1 ∙ sym (by-room (sets k 0 (judgedCells (marketIn l) v)) k))))

@@ -1,9 +1,11 @@
 -- What the code's answers stand for, and what taking an interval's part does.
 use Prim.Native.Nat.{ℕ, zero, suc, _+_, _-_, _*_, _<_}
+use mathlib.Core.Bool.{Bool, cond}
 use mathlib.Core.List.{List, []}
 use mathlib.Core.Path.{_≡_}
+use lib.Dec.{leb}
 use lib.IntN.{ℤ}
-use lib.ListN.{drop, take}
+use lib.ListN.{length, drop, take}
 use lib.Seq.{sets}
 use Rattle.rules_interval.specs.Intervals.{lmpAt, dispatchAt, availableAt, floorAt}
 use Rattle.rules_interval.specs.declared.Interval.{Interval}
@@ -11,6 +13,7 @@ use Rattle.rules_hour.specs.Hours.{callRefusal}
 use Rattle.rules_text.specs.Numbers.{Line, lines}
 use Rattle.rules_text.specs.Tables.{Reading, faulty, found}
 use Rattle.rules_text.specs.Offsets.{bytesOf}
+use Rattle.rules_state.specs.Layout.{rowsFrom}
 use Rattle.rules_state.specs.States.{standingIn, marketIn}
 use Rattle.rules_state.specs.Takes.{ifAccepted, standingWritten}
 use Rattle.rules_state.specs.Verdicts.{judgedCells}
@@ -56,21 +59,40 @@ answered zero line next constraints = record { number = 0; line = line; next = n
 answered (suc number) line next constraints = record { number = suc number; line = line; next = 0; constraints = 0 }
 
 -- the answer, of lines at offset `at` before which n others stand
-abbrev pub takenBy : List ℤ → ℕ → ℕ → List Line → Reading Interval → PartTaken
-takenBy state at n ls (faulty line) = record { number = 17; line = line; next = 0; constraints = 0 }
-takenBy state at n ls (found v last rest) = answered (refusalIn state v) last (at + bytesOf (last - n) ls) (v .constraints)
+abbrev pub takenWhole : List ℤ → ℕ → ℕ → List Line → Reading Interval → PartTaken
+takenWhole state at n ls (faulty line) = record { number = 17; line = line; next = 0; constraints = 0 }
+takenWhole state at n ls (found v last rest) = answered (refusalIn state v) last (at + bytesOf (last - n) ls) (v .constraints)
 
 -- the cells after it
-abbrev pub stateBy : List ℤ → Reading Interval → List ℤ
-stateBy state (faulty line) = state
-stateBy state (found v last rest) = ifAccepted (refusalIn state v) (standingWritten state v) state
+abbrev pub stateWhole : List ℤ → Reading Interval → List ℤ
+stateWhole state (faulty line) = state
+stateWhole state (found v last rest) = ifAccepted (refusalIn state v) (standingWritten state v) state
 
 -- and those of the verdicts
-abbrev pub verdictsBy : List ℤ → List ℤ → Reading Interval → List ℤ
-verdictsBy state verdicts (faulty line) = verdicts
-verdictsBy state verdicts (found v last rest) = ifAccepted (refusalIn state v) (sets verdicts 0 (judgedCells (marketIn state) v)) verdicts
+abbrev pub verdictsWhole : List ℤ → List ℤ → Reading Interval → List ℤ
+verdictsWhole state verdicts (faulty line) = verdicts
+verdictsWhole state verdicts (found v last rest) = ifAccepted (refusalIn state v) (sets verdicts 0 (judgedCells (marketIn state) v)) verdicts
 
 -- the lines after a part that is accepted
+abbrev pub leftWhole : List ℤ → Reading Interval → List Line
+leftWhole state (faulty line) = []
+leftWhole state (found v last rest) = ifAccepted (refusalIn state v) rest []
+
+-- ---- the same of cells of any number: fewer than an hour has before its rows are too few, answered by 255, and nothing is read or taken
+abbrev pub hasHour : List ℤ → Bool
+hasHour state = leb rowsFrom (length state)
+
+abbrev pub tooFew : PartTaken
+tooFew = record { number = 255; line = 0; next = 0; constraints = 0 }
+
+abbrev pub takenBy : List ℤ → ℕ → ℕ → List Line → Reading Interval → PartTaken
+takenBy state at n ls due = cond (hasHour state) (takenWhole state at n ls due) tooFew
+
+abbrev pub stateBy : List ℤ → Reading Interval → List ℤ
+stateBy state due = cond (hasHour state) (stateWhole state due) state
+
+abbrev pub verdictsBy : List ℤ → List ℤ → Reading Interval → List ℤ
+verdictsBy state verdicts due = cond (hasHour state) (verdictsWhole state verdicts due) verdicts
+
 abbrev pub leftBy : List ℤ → Reading Interval → List Line
-leftBy state (faulty line) = []
-leftBy state (found v last rest) = ifAccepted (refusalIn state v) rest []
+leftBy state due = cond (hasHour state) (leftWhole state due) []

@@ -4,6 +4,7 @@ use curve::outcome_number;
 use factor_table::factors_into;
 use rules_interval::Interval;
 use rules_state::MARKET_FROM;
+use rules_state::ROWS_FROM;
 use rules_state::VERDICT_ROOM;
 use rules_text::Found;
 use taking::take_into;
@@ -23,7 +24,7 @@ ghost use Rattle.interval_part.specs.Shown.{nextIf};
 ghost use mathlib.Core.List.{[]};
 ghost use Rattle.rules_state.specs.States.{marketIn};
 ghost use Rattle.rules_state.specs.Takes.{ifAccepted};
-ghost use Rattle.interval_part.specs.Taken.{shownValue, PartRead, takenBy, stateBy, verdictsBy, leftBy};
+ghost use Rattle.interval_part.specs.Taken.{shownValue, PartRead, takenWhole, stateWhole, verdictsWhole, leftWhole, takenBy, stateBy, verdictsBy, leftBy};
 
 // An hour of fewer resources needs fewer cells for outputs and factors: clearing all of them costs more than the rest of a small part.
 const ONE_RESOURCE: u64 = 1;
@@ -53,6 +54,9 @@ pub struct PartTaken {
     pub next: usize,
     pub constraints: usize,
 }
+
+// What is answered of too few cells for an hour: the number of no refusal.
+pub const TOO_SHORT: u64 = 255;
 
 // A text has at most so many lines: a larger number before a part counts as that.
 const MAX_LINES: usize = 65_536;
@@ -200,10 +204,10 @@ fn part_into(
 ) -> PartTaken
     requires blank { ⌜ (now outputs ≡ replicate (length (now outputs)) (pos 0)) × (now factors ≡ replicate (length (now factors)) (pos 0)) ⌝ }
     requires room { ⌜ (min (marketIn (now state) .resources) 64 * 4 ≤ length (now outputs)) × ((min (marketIn (now state) .resources) 64 * 32 ≤ length (now factors)) × (length (now factors) ≤ 2048)) ⌝ }
-    ensures answer { λ r. ⌜ r ≡ takenBy (now (state .entry)) at (min line 65536) (lines (drop at (now (s .entry)))) (readInterval (min line 65536) (lines (drop at (now (s .entry))))) ⌝ }
-    ensures state { λ r. ⌜ now (state .exit) ≡ stateBy (now (state .entry)) (readInterval (min line 65536) (lines (drop at (now (s .entry))))) ⌝ }
-    ensures verdicts { λ r. ⌜ now (verdicts .exit) ≡ verdictsBy (now (state .entry)) (now (verdicts .entry)) (readInterval (min line 65536) (lines (drop at (now (s .entry))))) ⌝ }
-    ensures rest { λ r. ⌜ ifAccepted (r .number) (lines (drop (r .next) (now (s .entry)))) [] ≡ leftBy (now (state .entry)) (readInterval (min line 65536) (lines (drop at (now (s .entry))))) ⌝ }
+    ensures answer { λ r. ⌜ r ≡ takenWhole (now (state .entry)) at (min line 65536) (lines (drop at (now (s .entry)))) (readInterval (min line 65536) (lines (drop at (now (s .entry))))) ⌝ }
+    ensures state { λ r. ⌜ now (state .exit) ≡ stateWhole (now (state .entry)) (readInterval (min line 65536) (lines (drop at (now (s .entry))))) ⌝ }
+    ensures verdicts { λ r. ⌜ now (verdicts .exit) ≡ verdictsWhole (now (state .entry)) (now (verdicts .entry)) (readInterval (min line 65536) (lines (drop at (now (s .entry))))) ⌝ }
+    ensures rest { λ r. ⌜ ifAccepted (r .number) (lines (drop (r .next) (now (s .entry)))) [] ≡ leftWhole (now (state .entry)) (readInterval (min line 65536) (lines (drop at (now (s .entry))))) ⌝ }
 {
     let mut shadow = [0i64; Interval::MAX_CONSTRAINTS];
     let part = part_at(s, at, line, &mut shadow, outputs, factors);
@@ -243,19 +247,18 @@ fn part_into(
     }
 }
 
-// The interval's part at an offset before which `line` lines stand, read and taken in the hour of the state: its cuts and the count go into the state, and its verdicts to
-// the front of `verdicts`; or the refusal, and both as they were.
-pub fn part_taken(
+// The same, with cells for as many outputs and factors as the hour's resources need.
+fn part_by_count(
     s: &[u8],
     at: usize,
     line: usize,
     state: &mut [i64],
     verdicts: &mut [i64; VERDICT_ROOM],
 ) -> PartTaken
-    ensures answer { λ r. ⌜ r ≡ takenBy (now (state .entry)) at (min line 65536) (lines (drop at (now (s .entry)))) (readInterval (min line 65536) (lines (drop at (now (s .entry))))) ⌝ }
-    ensures state { λ r. ⌜ now (state .exit) ≡ stateBy (now (state .entry)) (readInterval (min line 65536) (lines (drop at (now (s .entry))))) ⌝ }
-    ensures verdicts { λ r. ⌜ now (verdicts .exit) ≡ verdictsBy (now (state .entry)) (now (verdicts .entry)) (readInterval (min line 65536) (lines (drop at (now (s .entry))))) ⌝ }
-    ensures rest { λ r. ⌜ ifAccepted (r .number) (lines (drop (r .next) (now (s .entry)))) [] ≡ leftBy (now (state .entry)) (readInterval (min line 65536) (lines (drop at (now (s .entry))))) ⌝ }
+    ensures answer { λ r. ⌜ r ≡ takenWhole (now (state .entry)) at (min line 65536) (lines (drop at (now (s .entry)))) (readInterval (min line 65536) (lines (drop at (now (s .entry))))) ⌝ }
+    ensures state { λ r. ⌜ now (state .exit) ≡ stateWhole (now (state .entry)) (readInterval (min line 65536) (lines (drop at (now (s .entry))))) ⌝ }
+    ensures verdicts { λ r. ⌜ now (verdicts .exit) ≡ verdictsWhole (now (state .entry)) (now (verdicts .entry)) (readInterval (min line 65536) (lines (drop at (now (s .entry))))) ⌝ }
+    ensures rest { λ r. ⌜ ifAccepted (r .number) (lines (drop (r .next) (now (s .entry)))) [] ≡ leftWhole (now (state .entry)) (readInterval (min line 65536) (lines (drop at (now (s .entry))))) ⌝ }
 {
     let n = cells::whole_at(state, MARKET_FROM);
     if n <= ONE_RESOURCE {
@@ -276,4 +279,29 @@ pub fn part_taken(
     let mut outputs = [0i64; ALL_OUTPUTS];
     let mut factors = [0i64; Interval::MAX_FACTORS];
     part_into(s, at, line, &mut outputs, &mut factors, state, verdicts)
+}
+
+// The interval's part at an offset before which `line` lines stand, read and taken in the hour of the state: its cuts and the count go into the state, and its verdicts to
+// the front of `verdicts`; or the refusal, and both as they were. A state of fewer cells than an hour has before its rows is answered by 255.
+pub fn part_taken(
+    s: &[u8],
+    at: usize,
+    line: usize,
+    state: &mut [i64],
+    verdicts: &mut [i64; VERDICT_ROOM],
+) -> PartTaken
+    ensures answer { λ r. ⌜ r ≡ takenBy (now (state .entry)) at (min line 65536) (lines (drop at (now (s .entry)))) (readInterval (min line 65536) (lines (drop at (now (s .entry))))) ⌝ }
+    ensures state { λ r. ⌜ now (state .exit) ≡ stateBy (now (state .entry)) (readInterval (min line 65536) (lines (drop at (now (s .entry))))) ⌝ }
+    ensures verdicts { λ r. ⌜ now (verdicts .exit) ≡ verdictsBy (now (state .entry)) (now (verdicts .entry)) (readInterval (min line 65536) (lines (drop at (now (s .entry))))) ⌝ }
+    ensures rest { λ r. ⌜ ifAccepted (r .number) (lines (drop (r .next) (now (s .entry)))) [] ≡ leftBy (now (state .entry)) (readInterval (min line 65536) (lines (drop at (now (s .entry))))) ⌝ }
+{
+    if state.len() < ROWS_FROM {
+        return PartTaken {
+            number: TOO_SHORT,
+            line: 0,
+            next: 0,
+            constraints: 0,
+        };
+    }
+    part_by_count(s, at, line, state, verdicts)
 }

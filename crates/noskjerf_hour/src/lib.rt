@@ -1,6 +1,7 @@
 // An hour in numbers for programs in other languages, under C names: the caller keeps its state in a lent slice, and every content of it has a meaning. The contracts
 // cite the definitions of rules_state.
 use rules_curve::Outcome;
+use rules_state::Called;
 ghost use mathlib.Core.Path.{_≡_};
 ghost use Rattle.rules_state.specs.Layout.{stateRoom};
 ghost use Rattle.rules_state.specs.Openings.{openingIn};
@@ -34,7 +35,7 @@ pub extern "C" fn noskjerf_open(
         return -1;
     }
     let mut opened = [0i64; rules_state::STATE_ROOM];
-    let outcome = opening_cells::open_into(
+    let called = opening_cells::open_into(
         month,
         portfolios,
         sellers,
@@ -42,6 +43,9 @@ pub extern "C" fn noskjerf_open(
         blocks,
         &mut opened,
     );
+    let Called::Done(outcome) = called else {
+        return -1;
+    };
     if let Outcome::Refused(refusal) = outcome {
         return curve::refusal_number(refusal) as i64;
     }
@@ -72,7 +76,7 @@ fn called<'a>(
         return -1;
     }
     let mut found = taking::none_found();
-    let outcome = hour_cells::call_into(
+    let called = hour_cells::call_into(
         state,
         pass,
         constraints,
@@ -83,6 +87,9 @@ fn called<'a>(
         parameter,
         &mut found,
     );
+    let Called::Done(outcome) = called else {
+        return -1;
+    };
     if let Outcome::Refused(refusal) = outcome {
         return curve::refusal_number(refusal) as i64;
     }

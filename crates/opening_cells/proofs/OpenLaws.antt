@@ -12,7 +12,6 @@ use lib.Seq.{sets}
 use Rattle.rules_number.specs.Order.{natOf}
 use Rattle.rules_number.specs.Over.{allTo, listed, padded}
 use Rattle.rules_number.proofs.OverLaws.{all-same, last-or-before, listed-at, listed-length, listed-same, padded-length}
-use Rattle.rules_curve.specs.Refusals.{eachTo}
 use Rattle.rules_interval.specs.Intervals.{cell}
 use Rattle.rules_path.specs.declared.Market.{Market}
 use Rattle.rules_opening.specs.Openings.{noResource, resourceAt, sellerAt, isMark, isKnown, sellersGood, ownersGood, marketOf}
@@ -24,12 +23,10 @@ use Rattle.rules_text.proofs.ListLaws.{sets-append}
 use Rattle.rules_library.specs.Slices.{cellAt}
 use Rattle.rules_state.specs.Layout.{mostResources, mostPortfolios, marketFrom, rowsFrom, rowRoom, blockRoom}
 use Rattle.rules_state.specs.Openings.{blockOf, resourceIn, openingIn}
-use Rattle.rules_state.specs.OpenedInto.{openTo}
-use Rattle.rules_state.specs.States.{rowFrom, cellOf, floorsCells, standingCells, quarterCells, marketCells, rowCells}
+use Rattle.rules_state.specs.States.{cellOf, floorsCells, standingCells, quarterCells, marketCells, rowCells}
 use Rattle.rules_state.specs.Takes.{ifAccepted}
 use Rattle.opening_cells.proofs.CurveLaws.{market-put}
 use Rattle.opening_cells.proofs.RunLaws.{over-front}
-use Rattle.opening.proofs.OpeningLaws.{each-stops}
 
 -- ---- a list and its padding, as cells
 pub map-append : {A B : Type 0} (f : A → B) (k l : List A) → map f (k ++ l) ≡ map f k ++ map f l
@@ -174,7 +171,7 @@ module _ (month : ℤ) (portfolios : ℕ) (sellers : List ℤ) (resources : ℕ)
       (portfolios-are month portfolios sellers resources blocks many) (marks-are month portfolios sellers resources blocks few)
       ∙ ap (λ (n : ℕ). sets (sets (set fresh marketFrom (cellOf n)) (marketFrom + 1) (map cellOf (m .portfolio))) (marketFrom + 1 + mostResources) (map cellOf (m .seller))) (sym (count-is month portfolios sellers resources blocks))))
 
--- ---- how many come before the first refused one
+-- ---- what is put where a number is 0
 pub skipped : {A : Type 0} (n : ℕ) (x y : A) → 0 < n → ifAccepted n x y ≡ y
 skipped zero x y h = absurd (omega arith)
 skipped (suc n) x y h = refl
@@ -182,26 +179,13 @@ skipped (suc n) x y h = refl
 pub taken : {A : Type 0} (n : ℕ) (x y : A) → n ≡ 0 → ifAccepted n x y ≡ x
 taken n x y e = rw e
 
-module _ (f : ℕ → ℕ) where
-  pub open-all : (n : ℕ) → eachTo f n ≡ 0 → openTo f n ≡ n
-  unfolding openTo
-  open-all zero e = refl
-  open-all (suc n) e = rw e
-
-  pub open-stops : (n i : ℕ) → i < n → eachTo f i ≡ 0 → 0 < f i → openTo f n ≡ i
-  unfolding openTo
-  open-stops zero i l a h = absurd (omega arith)
-  open-stops (suc n) i l a h =
-      skipped (eachTo f (suc n)) (suc n) (openTo f n) (rw (each-stops f (suc n) i l a h) h)
-      ∙ ⊎-elim (λ e. open-all n (rw (← e) a) ∙ sym e) (λ k. open-stops n i k a h) (last-or-before i n l)
-
 -- ---- rows put one after the other
 flat-last : {A B : Type 0} (f : A → List B) (l : List A) (x : A) → flatMap f (l ++ (x ∷ [])) ≡ flatMap f l ++ f x
 unfolding flatMap
 flat-last f [] x = append-nil (f x)
 flat-last f (y ∷ l) x = ap (λ (r : List _). f y ++ r) (flat-last f l x) ∙ sym (append-assoc (f y) (flatMap f l) (f x))
 
-module _ (row : ℕ → Row) (s : List ℤ) where
+module _ (row : ℕ → Row) (s : List ℤ) (from : ℕ) where
   abbrev pub rowsTo : ℕ → List ℤ
   rowsTo n = flatMap rowCells (listed row n)
 
@@ -212,7 +196,12 @@ module _ (row : ℕ → Row) (s : List ℤ) where
   pub rows-length : (r : ℕ) → length (rowsTo r) ≡ rowRoom * r → length (rowCells (row r)) ≡ rowRoom → length (rowsTo (r + 1)) ≡ rowRoom * (r + 1)
   rows-length r e g = ap length (rows-next r) ∙ length-append (rowsTo r) (rowCells (row r)) ∙ omega arith
 
-  pub rows-put : (out next : List ℤ) (r : ℕ) → out ≡ sets s rowsFrom (rowsTo r) → length (rowsTo r) ≡ rowRoom * r → next ≡ sets out (rowFrom r) (rowCells (row r)) → next ≡ sets s rowsFrom (rowsTo (r + 1))
+  pub rows-put : (out next : List ℤ) (r : ℕ) → out ≡ sets s from (rowsTo r) → length (rowsTo r) ≡ rowRoom * r → next ≡ sets out (from + rowRoom * r) (rowCells (row r)) → next ≡ sets s from (rowsTo (r + 1))
   rows-put out next r e g n =
-      n ∙ ap (λ (l : List ℤ). sets l (rowFrom r) (rowCells (row r))) e ∙ ap (λ (i : ℕ). sets (sets s rowsFrom (rowsTo r)) (rowsFrom + i) (rowCells (row r))) (sym g)
-      ∙ sym (sets-append s rowsFrom (rowsTo r) (rowCells (row r))) ∙ ap (λ (l : List ℤ). sets s rowsFrom l) (sym (rows-next r))
+      n ∙ ap (λ (l : List ℤ). sets l (from + rowRoom * r) (rowCells (row r))) e ∙ ap (λ (i : ℕ). sets (sets s from (rowsTo r)) (from + i) (rowCells (row r))) (sym g)
+      ∙ sym (sets-append s from (rowsTo r) (rowCells (row r))) ∙ ap (λ (l : List ℤ). sets s from l) (sym (rows-next r))
+
+  -- before the first
+  pub rows-none : (out : List ℤ) (r : ℕ) → r ≡ 0 → out ≡ sets s from (rowsTo r) → out ≡ s
+  unfolding listed flatMap
+  rows-none out r e h = h ∙ ap (λ (k : ℕ). sets s from (rowsTo k)) e

@@ -5,9 +5,10 @@ use rules_curve::Curve;
 use rules_curve::Outcome;
 use rules_curve::Refusal;
 use rules_interval::Interval;
+use rules_state::Called;
 ghost use mathlib.Core.Bool.{true, _&&_};
 ghost use lib.Dec.{leb};
-ghost use mathlib.Core.List.{_++_, flatMap};
+ghost use mathlib.Core.List.{_++_};
 ghost use mathlib.Core.Path.{_≡_};
 ghost use Prim.Native.Nat.{_+_, _-_, _*_, _≤_, _<_};
 ghost use lib.IntN.{pos};
@@ -19,16 +20,16 @@ ghost use Rattle.rules_number.specs.Over.{allTo, listed};
 ghost use Rattle.rules_curve.specs.Curves.{mostSteps, stepsOf, endOf, edgesGood, pricesGood, curveOf, curveRefusal, bidRefusal, defaultRefusal, checkedDefault};
 ghost use Rattle.cost.specs.Cells.{endsBy};
 ghost use Rattle.rules_curve.specs.Refusals.{outcomeNumber, unless, _then_, eachTo};
-ghost use Rattle.rules_opening.specs.Openings.{isKnown, openingRefusal, marketOf};
+ghost use Rattle.rules_opening.specs.Openings.{isKnown, openingRefusal};
 ghost use Rattle.rules_opening.specs.Resources.{resourceRefusal, rowOf};
-ghost use Rattle.rules_hour.specs.Hours.{freshStanding};
-ghost use Rattle.rules_pass.specs.Passes.{freshQuarter};
 ghost use Rattle.rules_library.specs.Slices.{cellAt, rawBid};
 ghost use Rattle.rules_state.specs.Layout.{mostResources, mostPortfolios, rowsFrom, curveRoom, rowRoom, stateRoom, blockRoom};
-ghost use Rattle.rules_state.specs.OpenedInto.{openTo, openedInto};
-ghost use Rattle.rules_state.specs.States.{rowFrom, cellOf, standingCells, quarterCells, marketCells, curveCells, rowCells};
-ghost use Rattle.rules_state.specs.Takes.{ifAccepted};
+ghost use Rattle.rules_state.specs.Calls.{calledNumber};
+ghost use Rattle.rules_state.specs.OpenedInto.{intoAnswer, openedInto};
+ghost use Rattle.rules_state.specs.States.{cellOf, curveCells, rowCells};
+ghost use Rattle.rules_state.specs.Takes.{ifAccepted, openedCells};
 ghost use Rattle.rules_state.specs.Openings.{blockOf, resourceIn, openingIn};
+ghost use Rattle.opening_cells.specs.Hours.{refusalOf, rowsOf, freshOf, hourOf};
 
 // The block of resource r.
 fn block_of(blocks: &[i64], r: usize) -> [i64; rules_state::BLOCK_ROOM]
@@ -97,7 +98,7 @@ fn put_fresh(
     state: &mut [i64],
 )
     requires { ⌜ (portfolios ≤ mostPortfolios) × (resources ≤ mostResources) ⌝ }
-    ensures { λ x. ⌜ now (state .exit) ≡ sets (now (state .entry)) 0 (standingCells freshStanding ++ quarterCells freshQuarter ++ marketCells (marketOf (openingIn (pos 0) portfolios (now (sellers .entry)) resources (now (blocks .entry))))) ⌝ }
+    ensures { λ x. ⌜ now (state .exit) ≡ sets (now (state .entry)) 0 (freshOf portfolios (now (sellers .entry)) resources (now (blocks .entry))) ⌝ }
 {
     clear(state, 0, rules_state::ROWS_FROM);
     cells::put_whole(state, rules_state::MARKET_FROM, resources as u64);
@@ -348,14 +349,14 @@ fn put_block(month: u64, block: &[i64], at: usize, state: &mut [i64]) -> Outcome
     put_default(start, n, &block[3..], default, &curve, at, state)
 }
 
-// Puts the row of resource r, or answers its first refusal. A block that goes past the end is copied first.
-fn put_resource(month: u64, blocks: &[i64], r: usize, state: &mut [i64]) -> Outcome
-    requires { ⌜ r < mostResources ⌝ }
+// Puts the row of resource r of those that begin at a cell, or answers its first refusal. A block that goes past the end is copied first.
+fn put_resource(month: u64, blocks: &[i64], r: usize, from: usize, state: &mut [i64]) -> Outcome
+    requires { ⌜ (r < mostResources) × (from ≤ rowsFrom) ⌝ }
     ensures number { λ x. ⌜ outcomeNumber x ≡ resourceRefusal month (resourceIn (blockOf (now (blocks .entry)) r)) ⌝ }
     ensures room { λ x. ⌜ (resourceRefusal month (resourceIn (blockOf (now (blocks .entry)) r)) ≡ 0 → length (rowCells (rowOf (resourceIn (blockOf (now (blocks .entry)) r)))) ≡ rowRoom) ⌝ }
-    ensures state { λ x. ⌜ now (state .exit) ≡ ifAccepted (resourceRefusal month (resourceIn (blockOf (now (blocks .entry)) r))) (sets (now (state .entry)) (rowFrom r) (rowCells (rowOf (resourceIn (blockOf (now (blocks .entry)) r))))) (now (state .entry)) ⌝ }
+    ensures state { λ x. ⌜ now (state .exit) ≡ ifAccepted (resourceRefusal month (resourceIn (blockOf (now (blocks .entry)) r))) (sets (now (state .entry)) (from + rowRoom * r) (rowCells (rowOf (resourceIn (blockOf (now (blocks .entry)) r))))) (now (state .entry)) ⌝ }
 {
-    let at = rules_state::ROWS_FROM + rules_state::ROW_ROOM * r;
+    let at = from + rules_state::ROW_ROOM * r;
     let first = rules_state::BLOCK_ROOM * r;
     let past = first + rules_state::BLOCK_ROOM;
     if blocks.len() < past {
@@ -365,15 +366,16 @@ fn put_resource(month: u64, blocks: &[i64], r: usize, state: &mut [i64]) -> Outc
     put_block(month, &blocks[first..past], at, state)
 }
 
-// Puts the rows of the first n resources, as far as none is refused.
-fn put_resources(month: u64, n: usize, blocks: &[i64], state: &mut [i64]) -> Outcome
-    requires { ⌜ n ≤ mostResources ⌝ }
-    ensures number { λ x. ⌜ outcomeNumber x ≡ eachTo (λ r. resourceRefusal month (resourceIn (blockOf (now (blocks .entry)) r))) n ⌝ }
-    ensures state { λ x. ⌜ now (state .exit) ≡ sets (now (state .entry)) rowsFrom (flatMap rowCells (listed (λ r. rowOf (resourceIn (blockOf (now (blocks .entry)) r))) (openTo (λ r. resourceRefusal month (resourceIn (blockOf (now (blocks .entry)) r))) n))) ⌝ }
+// Puts the rows of the first n resources from a cell on, as far as none is refused, or answers the first refusal: of one resource, then, nothing is put.
+fn put_resources(month: u64, n: usize, blocks: &[i64], from: usize, state: &mut [i64]) -> Outcome
+    requires { ⌜ (n ≤ mostResources) × (from ≤ rowsFrom) ⌝ }
+    ensures number { λ x. ⌜ outcomeNumber x ≡ eachTo (refusalOf month (now (blocks .entry))) n ⌝ }
+    ensures rows { λ x. ⌜ (eachTo (refusalOf month (now (blocks .entry))) n ≡ 0 → (length (rowsOf (now (blocks .entry)) n) ≡ rowRoom * n) × (now (state .exit) ≡ sets (now (state .entry)) from (rowsOf (now (blocks .entry)) n))) ⌝ }
+    ensures one { λ x. ⌜ (n ≡ 1 → 0 < eachTo (refusalOf month (now (blocks .entry))) n → now (state .exit) ≡ now (state .entry)) ⌝ }
 {
     let mut r: usize = 0;
     while r < n {
-        let outcome = put_resource(month, blocks, r, state);
+        let outcome = put_resource(month, blocks, r, from, state);
         let Outcome::Accepted = outcome else {
             return outcome;
         };
@@ -382,8 +384,140 @@ fn put_resources(month: u64, n: usize, blocks: &[i64], state: &mut [i64]) -> Out
     Outcome::Accepted
 }
 
-// Opens an hour into its cells, or answers the first refusal. Cells past those of its resources are left as they were; refused by 9 or 10, all are.
-pub fn open_into(
+// A row that is refused puts nothing, so an hour of one resource gets its row first.
+fn open_one(
+    month: u64,
+    portfolios: usize,
+    sellers: &[i64],
+    resources: usize,
+    blocks: &[i64],
+    state: &mut [i64],
+) -> Outcome
+    requires { ⌜ (portfolios ≤ mostPortfolios) × (resources ≡ 1) ⌝ }
+    ensures number { λ x. ⌜ outcomeNumber x ≡ eachTo (refusalOf month (now (blocks .entry))) resources ⌝ }
+    ensures state { λ x. ⌜ now (state .exit) ≡ ifAccepted (eachTo (refusalOf month (now (blocks .entry))) resources) (hourOf portfolios (now (sellers .entry)) resources (now (blocks .entry)) (now (state .entry))) (now (state .entry)) ⌝ }
+{
+    let outcome = put_resources(month, resources, blocks, rules_state::ROWS_FROM, state);
+    let Outcome::Accepted = outcome else {
+        return outcome;
+    };
+    put_fresh(portfolios, sellers, resources, blocks, state);
+    outcome
+}
+
+// An hour of more has its rows put into cells of its own first, few, half as many as it may have, or all.
+const FEW: usize = 8;
+
+const HALF: usize = 32;
+
+// At most 8 resources.
+fn open_few(
+    month: u64,
+    portfolios: usize,
+    sellers: &[i64],
+    resources: usize,
+    blocks: &[i64],
+    state: &mut [i64],
+) -> Outcome
+    requires { ⌜ (portfolios ≤ mostPortfolios) × (resources ≤ 8) ⌝ }
+    ensures number { λ x. ⌜ outcomeNumber x ≡ eachTo (refusalOf month (now (blocks .entry))) resources ⌝ }
+    ensures state { λ x. ⌜ now (state .exit) ≡ ifAccepted (eachTo (refusalOf month (now (blocks .entry))) resources) (hourOf portfolios (now (sellers .entry)) resources (now (blocks .entry)) (now (state .entry))) (now (state .entry)) ⌝ }
+{
+    let mut rows = [0i64; FEW * rules_state::ROW_ROOM];
+    let outcome = put_resources(month, resources, blocks, 0, &mut rows);
+    let Outcome::Accepted = outcome else {
+        return outcome;
+    };
+    put_fresh(portfolios, sellers, resources, blocks, state);
+    cell_copies::put_all(
+        state,
+        rules_state::ROWS_FROM,
+        &rows[..rules_state::ROW_ROOM * resources],
+    );
+    outcome
+}
+
+// At most 32.
+fn open_half(
+    month: u64,
+    portfolios: usize,
+    sellers: &[i64],
+    resources: usize,
+    blocks: &[i64],
+    state: &mut [i64],
+) -> Outcome
+    requires { ⌜ (portfolios ≤ mostPortfolios) × (resources ≤ 32) ⌝ }
+    ensures number { λ x. ⌜ outcomeNumber x ≡ eachTo (refusalOf month (now (blocks .entry))) resources ⌝ }
+    ensures state { λ x. ⌜ now (state .exit) ≡ ifAccepted (eachTo (refusalOf month (now (blocks .entry))) resources) (hourOf portfolios (now (sellers .entry)) resources (now (blocks .entry)) (now (state .entry))) (now (state .entry)) ⌝ }
+{
+    let mut rows = [0i64; HALF * rules_state::ROW_ROOM];
+    let outcome = put_resources(month, resources, blocks, 0, &mut rows);
+    let Outcome::Accepted = outcome else {
+        return outcome;
+    };
+    put_fresh(portfolios, sellers, resources, blocks, state);
+    cell_copies::put_all(
+        state,
+        rules_state::ROWS_FROM,
+        &rows[..rules_state::ROW_ROOM * resources],
+    );
+    outcome
+}
+
+// Any number.
+fn open_all(
+    month: u64,
+    portfolios: usize,
+    sellers: &[i64],
+    resources: usize,
+    blocks: &[i64],
+    state: &mut [i64],
+) -> Outcome
+    requires { ⌜ (portfolios ≤ mostPortfolios) × (resources ≤ mostResources) ⌝ }
+    ensures number { λ x. ⌜ outcomeNumber x ≡ eachTo (refusalOf month (now (blocks .entry))) resources ⌝ }
+    ensures state { λ x. ⌜ now (state .exit) ≡ ifAccepted (eachTo (refusalOf month (now (blocks .entry))) resources) (hourOf portfolios (now (sellers .entry)) resources (now (blocks .entry)) (now (state .entry))) (now (state .entry)) ⌝ }
+{
+    let mut rows = [0i64; Interval::MAX_RESOURCES * rules_state::ROW_ROOM];
+    let outcome = put_resources(month, resources, blocks, 0, &mut rows);
+    let Outcome::Accepted = outcome else {
+        return outcome;
+    };
+    put_fresh(portfolios, sellers, resources, blocks, state);
+    cell_copies::put_all(
+        state,
+        rules_state::ROWS_FROM,
+        &rows[..rules_state::ROW_ROOM * resources],
+    );
+    outcome
+}
+
+// By the number of resources: clearing cells for all costs more than the rest of a small opening.
+fn open_rows(
+    month: u64,
+    portfolios: usize,
+    sellers: &[i64],
+    resources: usize,
+    blocks: &[i64],
+    state: &mut [i64],
+) -> Outcome
+    requires { ⌜ (portfolios ≤ mostPortfolios) × (resources ≤ mostResources) ⌝ }
+    ensures number { λ x. ⌜ outcomeNumber x ≡ eachTo (refusalOf month (now (blocks .entry))) resources ⌝ }
+    ensures state { λ x. ⌜ now (state .exit) ≡ ifAccepted (eachTo (refusalOf month (now (blocks .entry))) resources) (hourOf portfolios (now (sellers .entry)) resources (now (blocks .entry)) (now (state .entry))) (now (state .entry)) ⌝ }
+{
+    if resources == 1 {
+        return open_one(month, portfolios, sellers, resources, blocks, state);
+    }
+    if resources <= FEW {
+        return open_few(month, portfolios, sellers, resources, blocks, state);
+    }
+    if resources <= HALF {
+        return open_half(month, portfolios, sellers, resources, blocks, state);
+    }
+    open_all(month, portfolios, sellers, resources, blocks, state)
+}
+
+// Opens an hour into its cells, or answers the first refusal and leaves them as they were: all is checked before the first of them is written.
+fn opened(
     month: i64,
     portfolios: usize,
     sellers: &[i64],
@@ -392,7 +526,7 @@ pub fn open_into(
     state: &mut [i64],
 ) -> Outcome
     ensures number { λ x. ⌜ outcomeNumber x ≡ openingRefusal (openingIn month portfolios (now (sellers .entry)) resources (now (blocks .entry))) ⌝ }
-    ensures state { λ x. ⌜ now (state .exit) ≡ openedInto (openingIn month portfolios (now (sellers .entry)) resources (now (blocks .entry))) (now (state .entry)) ⌝ }
+    ensures state { λ x. ⌜ now (state .exit) ≡ ifAccepted (openingRefusal (openingIn month portfolios (now (sellers .entry)) resources (now (blocks .entry)))) (sets (now (state .entry)) 0 (openedCells (openingIn month portfolios (now (sellers .entry)) resources (now (blocks .entry))))) (now (state .entry)) ⌝ }
 {
     if !opening::counts_good(month, portfolios, resources) {
         return Outcome::Refused(Refusal::Counts);
@@ -403,6 +537,32 @@ pub fn open_into(
     if !owners_known(blocks, resources, portfolios) {
         return Outcome::Refused(Refusal::Membership);
     }
-    put_fresh(portfolios, sellers, resources, blocks, state);
-    put_resources(number::whole(month), resources, blocks, state)
+    open_rows(
+        number::whole(month),
+        portfolios,
+        sellers,
+        resources,
+        blocks,
+        state,
+    )
+}
+
+// Opens an hour into lent cells. Too few cells for its resources are answered as such; they, and those of an opening that is refused, are left as they were, and so
+// are cells past those of its resources.
+pub fn open_into(
+    month: i64,
+    portfolios: usize,
+    sellers: &[i64],
+    resources: usize,
+    blocks: &[i64],
+    state: &mut [i64],
+) -> Called
+    ensures number { λ x. ⌜ calledNumber x ≡ intoAnswer (now (state .entry)) (openingIn month portfolios (now (sellers .entry)) resources (now (blocks .entry))) ⌝ }
+    ensures state { λ x. ⌜ now (state .exit) ≡ openedInto (openingIn month portfolios (now (sellers .entry)) resources (now (blocks .entry))) (now (state .entry)) ⌝ }
+{
+    let rows = number::at_most(resources, Interval::MAX_RESOURCES);
+    if state.len() < rules_state::ROWS_FROM + rules_state::ROW_ROOM * rows {
+        return Called::TooShort;
+    }
+    Called::Done(opened(month, portfolios, sellers, resources, blocks, state))
 }

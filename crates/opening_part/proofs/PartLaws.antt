@@ -23,7 +23,9 @@ use Rattle.rules_parts.specs.Parts.{openingOf, readOpening}
 use Rattle.rules_state.specs.Layout.{blockRoom}
 use Rattle.rules_state.specs.Openings.{openingIn}
 use Rattle.text_blocks.specs.Blocks.{ownerCells, ownerRows, blocksPut, blocksOf, lastThree, openingWith}
-use Rattle.opening_part.specs.Parts.{lastFour, headedFour, partBy, partAnswer, partState, linesAfter, Opened}
+use Rattle.rules_state.specs.Layout.{hourRoom}
+use Rattle.rules_state.specs.Calls.{holds}
+use Rattle.opening_part.specs.Parts.{lastFour, headedFour, partIn, partAnswer, partState, linesAfter, Opened}
 use Rattle.opening_part.specs.declared.PartOpened.{PartOpened}
 use Rattle.text_blocks.proofs.LongLaws.{last-same, rises-last}
 use Rattle.text_blocks.proofs.OpeningLaws.{owners-room, blocks-decode, with-is}
@@ -193,15 +195,15 @@ module _ (s : List ℕ) (n at : ℕ) where
         ∙ four-is month pr n2 (lines (drop at2 s))
         ∙ sym (read-first ∙ ap (λ (r : Reading (List Row)). next r (ownersThen month)) (g .is))
 
--- ---- the answer at the beginning of a text
-answer-first : (s : List ℕ) (R : Reading Opening) → partAnswer (λ k. 0 + bytesOf (k - 0) (lines (drop 0 s))) R ≡ partAnswer (λ k. bytesOf k (lines s)) R
+-- ---- the answer where no line is counted before the part
+answer-first : (s : List ℕ) (at : ℕ) (b : List ℤ) (R : Reading Opening)
+    → partAnswer (λ k. at + bytesOf (k - 0) (lines (drop at s))) b R ≡ partAnswer (λ k. at + bytesOf k (lines (drop at s))) b R
 unfolding partAnswer
-answer-first s (faulty line) = refl
-answer-first s (found o k rest) =
+answer-first s at b (faulty line) = refl
+answer-first s at b (found o k rest) =
     let z : k - 0 ≡ k = omega arith in
-    let y : 0 + bytesOf k (lines s) ≡ bytesOf k (lines s) = omega arith in
-    ap (λ (i : ℕ). partBy (openingRefusal o) k (0 + bytesOf i (lines s)) (o .resources)) z ∙ ap (λ (i : ℕ). partBy (openingRefusal o) k i (o .resources)) y
+    ap (λ (i : ℕ). partIn (holds (hourRoom (o .resources)) b) (openingRefusal o) k (at + bytesOf i (lines (drop at s))) (o .resources)) z
 
-pub opened-first : (s : List ℕ) (R : Reading Opening) (b a : List ℤ) (r : PartOpened) → Opened s 0 0 R b a r
-    → (r ≡ partAnswer (λ k. bytesOf k (lines s)) R) × ((a ≡ partState R b) × (r .number ≡ 0 → lines (drop (r .next) s) ≡ linesAfter R))
-opened-first s R b a r o = (o .answer ∙ answer-first s R, (o .state, o .rest))
+pub opened-first : (s : List ℕ) (at : ℕ) (R : Reading Opening) (b a : List ℤ) (r : PartOpened) → Opened s 0 at R b a r
+    → (r ≡ partAnswer (λ k. at + bytesOf k (lines (drop at s))) b R) × ((a ≡ partState R b) × (r .number ≡ 0 → lines (drop (r .next) s) ≡ linesAfter R))
+opened-first s at R b a r o = (o .answer ∙ answer-first s at b R, (o .state, o .rest))

@@ -6,10 +6,11 @@ use crate::tables::Charges;
 use crate::tables::charges_into;
 use crate::tables::groups_into;
 use opening_cells::open_into;
-use reader::row_of;
 use rules_interval::Interval;
 use rules_path::Market;
+use rules_state::Called;
 use rules_text::Found;
+use text_lines::row_at;
 use text_names::line_is;
 use text_tables::owners_at;
 use text_tables::sellers_at;
@@ -24,13 +25,16 @@ ghost use Rattle.text_blocks.specs.Blocks.{ownerCells, ownerRows, blocksPut, la
 ghost use Rattle.opening_part.specs.Parts.{lastFour, headedFour, faultyAt, partAnswer, partState, linesAfter, Opened};
 
 // What opening the part of a text answers: 17 and the number of the faulty line; the opening's refusal and the number of the part's last line; or 0, that
-// number, the offset of the next line and the number of resources.
+// number, the offset of the next line and the number of resources. Where the cells are too few for these, `TOO_SHORT`, the number of the last line and how many they are.
 pub struct PartOpened {
     pub number: u64,
     pub line: usize,
     pub next: usize,
     pub resources: usize,
 }
+
+// The number that says so: no refusal has it.
+pub const TOO_SHORT: u64 = 255;
 
 // A part of one resource, or of few, has its blocks in a smaller array.
 const FEW: usize = 8;
@@ -136,7 +140,15 @@ fn opened_in(
     if fault != 0 {
         return faulty_line(fault);
     }
-    let outcome = open_into(month, portfolios, sellers, m, blocks, state);
+    let called = open_into(month, portfolios, sellers, m, blocks, state);
+    let Called::Done(outcome) = called else {
+        return PartOpened {
+            number: TOO_SHORT,
+            line: tables.line,
+            next: 0,
+            resources: m,
+        };
+    };
     let number = curve::outcome_number(outcome);
     if number != 0 {
         return PartOpened {
@@ -300,16 +312,17 @@ fn opened_after(
     opened_long(s, at, n + 1, month, portfolios, sellers, state)
 }
 
-// Opens an hour into its cells by the part at the beginning of a text.
-pub fn part_opened(s: &[u8], state: &mut [i64]) -> PartOpened
-    ensures answer { λ r. ⌜ r ≡ partAnswer (λ k. bytesOf k (lines (now (s .entry)))) (readOpening 0 (lines (now (s .entry)))) ⌝ }
-    ensures state { λ r. ⌜ now (state .exit) ≡ partState (readOpening 0 (lines (now (s .entry)))) (now (state .entry)) ⌝ }
-    ensures rest { λ r. ⌜ (r .number ≡ 0 → lines (drop (r .next) (now (s .entry))) ≡ linesAfter (readOpening 0 (lines (now (s .entry))))) ⌝ }
+// Opens an hour into its cells by the part at an offset of a text, whose lines are counted from there. Where a line is at fault, the opening is refused or the cells are
+// too few, they are as they were.
+pub fn part_opened(s: &[u8], at: usize, state: &mut [i64]) -> PartOpened
+    ensures answer { λ r. ⌜ r ≡ partAnswer (λ k. at + bytesOf k (lines (drop at (now (s .entry))))) (now (state .entry)) (readOpening 0 (lines (drop at (now (s .entry))))) ⌝ }
+    ensures state { λ r. ⌜ now (state .exit) ≡ partState (readOpening 0 (lines (drop at (now (s .entry))))) (now (state .entry)) ⌝ }
+    ensures rest { λ r. ⌜ (r .number ≡ 0 → lines (drop (r .next) (now (s .entry))) ≡ linesAfter (readOpening 0 (lines (drop at (now (s .entry)))))) ⌝ }
 {
-    let Found::At(at) = line_is(s, 0, b"month\n") else {
+    let Found::At(at) = line_is(s, at, b"month\n") else {
         return faulty_line(1);
     };
-    let row = row_of(s, at, 1);
+    let row = row_at(s, at, 1);
     let month = row.v;
     if !row.ok {
         return faulty_line(2);

@@ -10,9 +10,7 @@ use lib.ListN.{length, drop, take, getD, length-append, length-take, drop-of-len
 use lib.Seq.{sets, length-sets}
 use lib.IntN.{pos}
 use Rattle.rules_text.specs.Numbers.{Row}
-use Rattle.rules_path.specs.Verdicts.{findingNumber}
-use Rattle.rules_path.specs.declared.Finding.{Finding}
-use Rattle.rules_path.specs.declared.Finding.the-variants.{Competitive, NonCompetitive, NotBinding}
+use Rattle.rules_path.specs.declared.Finding.the-variants.{Competitive}
 use Rattle.rules_path.specs.declared.Verdict.{Verdict}
 use Rattle.rules_page.specs.Pages.{printable, hasRoom, putWithin, putWithinTo}
 use Rattle.rules_text.specs.Printing.{lineText, groupText, tableText, printed, printedTo}
@@ -58,16 +56,7 @@ module _ (out : List ℕ) (at : ℕ) (text last : List ℕ) (answer : Printed) (
   pub put-full : {X : Type 0} → answer ≡ Full → X
   put-full g = absurd (let h : answer ≡ To (at + length text) = put-both .1 in let z : _≡_ {A = ℕ} 0 1 = cc in omega arith)
 
--- ---- the next line of a group and the next group of a table
-module _ {A : Type 0} (f : A → Row) (d : A) (i c : ℕ) (l : List A) (s : ℕ) where
-  pub group-next : s < length l → groupText i c (map f (drop s l)) ≡ lineText (pos i ∷ pos c ∷ f (getD l s d)) ++ groupText i c (map f (drop (s + 1) l))
-  unfolding groupText
-  group-next h = ap (λ (t : List A). groupText i c (map f t)) (at-cons d l s h)
-
-  pub group-done : length l ≤ s → groupText i c (map f (drop s l)) ≡ []
-  unfolding groupText
-  group-done h = ap (λ (t : List A). groupText i c (map f t)) (drop-of-length-le l h)
-
+-- ---- the next group of a table
 module _ {A : Type 0} (g : A → List Row) (d : A) (i : ℕ) (l : List A) (c : ℕ) where
   pub table-next : c < length l → tableText i c (map g (drop c l)) ≡ groupText i c (g (getD l c d)) ++ tableText i (c + 1) (map g (drop (c + 1) l))
   unfolding tableText
@@ -91,11 +80,6 @@ taken-length n k m l e f = length-take n l ∙ omega arith
 pub group-one : (i c : ℕ) (x : Row) → groupText i c (x ∷ []) ≡ lineText (pos i ∷ pos c ∷ x)
 unfolding groupText
 group-one i c x = append-nil (lineText (pos i ∷ pos c ∷ x))
-
-pub finding-small : (f : Finding) → findingNumber f < 100
-finding-small Competitive = omega arith
-finding-small NonCompetitive = omega arith
-finding-small NotBinding = omega arith
 
 -- what a read past the end of an array of verdicts gives
 abbrev pub noVerdict : Verdict

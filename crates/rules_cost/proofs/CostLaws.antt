@@ -76,10 +76,6 @@ module _ (c : Costs) (prices : pricesInRange c ≡ true) (quantities : mwGood c 
   largest-in = highest-from-bound (λ z. rateInRange z ≡ true) (negℤ (pos 100000)) (rateAt c) n refl rate-in
 
 -- ---- M never falls, nor does the price
-pub largest-never-falls : (c : Costs) (i : ℕ) → largestRate c i ≤ℤ largestRate c (suc i)
-unfolding largestRate
-largest-never-falls c i = highest-ge (rateAt c) i
-
 pub raised-never-falls : (c : Costs) (i : ℕ) → raisedPrice c i ≤ℤ raisedPrice c (suc i)
 unfolding raisedPrice
 raised-never-falls c i = highest-ge (stepPrice c) i

@@ -1,17 +1,15 @@
 -- The default curve from costs (paper 01, Default curve from costs; Curve): what holds of it for any number of points.
-use mathlib.Core.Bool.{true, false}
+use mathlib.Core.Bool.{true}
 use mathlib.Core.Path.{_≡_, ap, ap₂, sym, _∙_}
 use Prim.Native.Nat.{ℕ, suc, _-_, _≤_, _<_}
 use native.Mathlib.Nat.{le-refl}
 use native.Mathlib.Omega.{arith}
 use borrow.Author.Tests.{le-leb}
-use lib.IntN.{ℤ, pos, _-ℤ_, _*ℤ_}
-use lib.Signed.{leZ, ltZ, _≤ℤ_, _<ℤ_}
-use Rattle.rules_number.specs.Order.{maxZ, inRange, natOf}
+use lib.IntN.{ℤ, pos}
+use lib.Signed.{leZ, ltZ, _≤ℤ_}
+use Rattle.rules_number.specs.Order.{inRange, natOf}
 use Rattle.rules_number.specs.Over.{listed}
 use Rattle.rules_number.proofs.Kit.{var, lit, neg, le-by, Bd, le-of, true-le}
-use Rattle.rules_number.proofs.OrderLaws.{min-le-right}
-use Rattle.rules_number.proofs.CeilSize.{ceil-ge, ceil-lt}
 use Rattle.rules_number.proofs.OverLaws.{listed-length}
 use Rattle.rules_curve.specs.Refusals.{outcomeNumber}
 use Rattle.rules_curve.specs.Curves.{mostSteps, unlessRefused, curveWith, edgeSuits, priceSuits, countGood, edgesGood, pricesGood, curveRefusal, defaultRefusal, highestDefault, lowestDefault}
@@ -21,7 +19,7 @@ use Rattle.rules_curve.proofs.ChainLaws.{chain-listed}
 use Rattle.rules_curve.proofs.RawLaws.{rawStep, rawOf, raw-listed, raw-back}
 use Rattle.rules_curve.specs.declared.Curve.{Curve}
 use Rattle.rules_curve.specs.declared.Checked.{Checked}
-use Rattle.rules_cost.specs.Costs.{mwAt, stepCount, endAt, edgeAt, width, unlimited, isLimited, incrementalRate, rateAt, largestRate, stepPrice, raisedPrice, costStep, costCurve, mwGood, pricesInRange, ratesGood, costRefusal}
+use Rattle.rules_cost.specs.Costs.{mwAt, stepCount, endAt, edgeAt, rateAt, largestRate, stepPrice, raisedPrice, costStep, costCurve, mwGood, pricesInRange, ratesGood, costRefusal}
 use Rattle.rules_number.specs.Least.{IsHighest}
 use Rattle.rules_number.proofs.HighestLaws.{highest-is-highest}
 use Rattle.rules_number.proofs.RangeLaws.{nat-is}
@@ -29,27 +27,7 @@ use Rattle.rules_cost.proofs.RangeLaws.{few, mw-in}
 use Rattle.rules_cost.proofs.EdgeLaws.{wide-step, some-step, eleven-suffice}
 use Rattle.rules_cost.proofs.CostLaws.{raised-bound, raised-never-falls}
 use Rattle.rules_cost.proofs.RefusalLaws.{passed}
-use Rattle.rules_cost.specs.declared.Point.{Point}
 use Rattle.rules_cost.specs.declared.Costs.{Costs}
-
--- "R = n / w, up", where n = h' × m' - h × m and "Up means rounded toward plus infinity": R × w >= n > (R - 1) × w.
-abbrev pub heatRise : Point → Point → ℤ
-heatRise p q = q .heat *ℤ q .mw -ℤ p .heat *ℤ p .mw
-
-pub rounded-up : (p q : Point) → 0 < width p q
-    → (heatRise p q ≤ℤ (unlimited p q *ℤ pos (width p q))) × (((unlimited p q -ℤ pos 1) *ℤ pos (width p q)) <ℤ heatRise p q)
-unfolding unlimited
-rounded-up p q h = (ceil-ge (heatRise p q) (width p q) h, ceil-lt (heatRise p q) (width p q) h)
-
--- "If 5 × m' <= 4 × PMax, R is at most the larger of h and h'", with the step's own end for m', and else it is n / w, up.
-module _ (top e : ℤ) (p q : Point) where
-  pub limited : isLimited top e ≡ true → incrementalRate top e p q ≤ℤ maxZ (p .heat) (q .heat)
-  unfolding incrementalRate
-  limited h = rw h (min-le-right (unlimited p q) (maxZ (p .heat) (q .heat)))
-
-  pub not-limited : isLimited top e ≡ false → incrementalRate top e p q ≡ unlimited p q
-  unfolding incrementalRate
-  not-limited h = rw h
 
 -- "M is the largest R so far, from the left."
 pub largest-so-far : (c : Costs) (i : ℕ) → IsHighest (rateAt c) i (largestRate c i)

@@ -7,15 +7,14 @@ use Prim.Native.Nat.{ℕ, zero, suc, _≤_, _<_}
 use native.Mathlib.Omega.{arith}
 use lib.Dec.{lit<}
 use lib.IntN.{ℤ, pos, _+ℤ_, _-ℤ_, _*ℤ_, *ℤ-comm}
-use lib.Signed.{_≤ℤ_, _<ℤ_}
-use Rattle.rules_number.specs.Order.{minZ, maxZ, natOf}
+use lib.Signed.{_≤ℤ_}
+use Rattle.rules_number.specs.Order.{natOf}
 use Rattle.rules_number.specs.Ceil.{ceilDiv}
 use Rattle.rules_number.specs.Least.{IsHighest}
-use Rattle.rules_number.proofs.Kit.{var, eq-by, le-of, lt-not-le}
+use Rattle.rules_number.proofs.Kit.{var, eq-by, le-of}
 use Rattle.rules_number.proofs.CeilSize.{ceil-ge, ceil-lt}
 use Rattle.rules_number.proofs.CeilLaws.{ceil-unique}
-use Rattle.rules_number.proofs.RangeLaws.{nat-is, rises}
-use Rattle.rules_number.proofs.ExactLaws.{leZ-exactly, ltZ-exactly}
+use Rattle.rules_number.proofs.RangeLaws.{nat-is}
 use Rattle.rules_number.proofs.OverLaws.{listed-length}
 use Rattle.rules_number.proofs.CellLaws.{cell-listed}
 use Rattle.rules_curve.specs.Curves.{mostSteps, stepTo, blankStep}
@@ -23,13 +22,12 @@ use Rattle.rules_curve.specs.declared.Step.{Step}
 use Rattle.rules_curve.specs.declared.Curve.{Curve}
 use Rattle.rules_cost.specs.Conditions.{Quantified}
 use Rattle.rules_cost.specs.Meaning.{Up, Priced, Raised, step, edgeOf, IsDefaultCurve, Alike}
-use Rattle.rules_cost.specs.Costs.{segmentAt, endAt, edgeAt, widthAt, mwGood, width, unlimited, incrementalRate, fuel, greenhouse, feePart, stepCost, withAdder, rateAt, largestRate, stepPrice, raisedPrice, stepCount, costStep, costCurve, costRefusal}
-use Rattle.rules_cost.proofs.DefaultCurve.{heatRise, largest-so-far, raised-to-largest}
+use Rattle.rules_cost.specs.Costs.{segmentAt, endAt, edgeAt, widthAt, mwGood, fuel, greenhouse, feePart, stepCost, withAdder, rateAt, largestRate, stepPrice, raisedPrice, stepCount, costStep, costCurve, costRefusal}
+use Rattle.rules_cost.proofs.DefaultCurve.{largest-so-far, raised-to-largest}
 use Rattle.rules_cost.proofs.Exactly.{quantities-exactly, step-rate-is, step-rate-only, cost-accepted}
 use Rattle.rules_cost.proofs.RangeLaws.{above-zero}
 use Rattle.rules_cost.proofs.SplitLaws.{whole-mw, segment-among, step-part}
 use Rattle.rules_cost.proofs.EdgeLaws.{wide-step, width-above, first-edge, last-edge, Alone, steps-only}
-use Rattle.rules_cost.specs.declared.Point.{Point}
 use Rattle.rules_cost.specs.declared.Costs.{Costs}
 
 -- ---- up: there is one such number, and no other
@@ -41,42 +39,6 @@ up-is x d h = record {
 
 pub up-only : (x q : ℤ) (d : ℕ) → 0 < d → Up x (pos d) q → q ≡ ceilDiv x d
 up-only x q d h u = ceil-unique x q d h (rw (*ℤ-comm q (pos d)) (u .enough)) (rw (*ℤ-comm (q -ℤ pos 1) (pos d)) (u .no-more))
-
--- ---- w = m' - m, which is above 0 where the quantities rise
-module _ (p q : Point) (rise : p .mw <ℤ q .mw) where
-  wide : 0 < width p q
-  unfolding width
-  wide = rises (p .mw) (q .mw) (ltZ-exactly (p .mw) (q .mw) .1 rise)
-
-  width-is : pos (width p q) ≡ q .mw -ℤ p .mw
-  unfolding width
-  width-is = above-zero (q .mw -ℤ p .mw) wide
-
--- ---- the 80% limit of a step that ends at e, of the neighbours p = (m, h) and q = (m', h')
--- "R = n / w, up. If 5 × m' <= 4 × PMax, R is at most the larger of h and h'": there R is the smaller of the two, and else it is n / w, up.
-pub record Limit (top e : ℤ) (p q : Point) : Type 0 where
-  pub quotient : ℤ
-  pub quotient-up : Up (q .heat *ℤ q .mw -ℤ p .heat *ℤ p .mw) (q .mw -ℤ p .mw) quotient
-  pub limited : (pos 5 *ℤ e) ≤ℤ (pos 4 *ℤ top) → incrementalRate top e p q ≡ minZ quotient (maxZ (p .heat) (q .heat))
-  pub not-limited : (pos 4 *ℤ top) <ℤ (pos 5 *ℤ e) → incrementalRate top e p q ≡ quotient
-
-module _ (top e : ℤ) (p q : Point) where
-  pub at-most : (pos 5 *ℤ e) ≤ℤ (pos 4 *ℤ top) → incrementalRate top e p q ≡ minZ (unlimited p q) (maxZ (p .heat) (q .heat))
-  unfolding incrementalRate
-  at-most h = rw (leZ-exactly (pos 5 *ℤ e) (pos 4 *ℤ top) .1 h)
-
-  pub as-it-is : (pos 4 *ℤ top) <ℤ (pos 5 *ℤ e) → incrementalRate top e p q ≡ unlimited p q
-  unfolding incrementalRate
-  as-it-is h = rw (lt-not-le (pos 4 *ℤ top) (pos 5 *ℤ e) (ltZ-exactly (pos 4 *ℤ top) (pos 5 *ℤ e) .1 h))
-
-  pub limit : p .mw <ℤ q .mw → Limit top e p q
-  unfolding unlimited
-  limit rise = record {
-    quotient = unlimited p q;
-    quotient-up = rw (← width-is p q rise) (up-is (heatRise p q) (width p q) (wide p q rise));
-    limited = at-most;
-    not-limited = as-it-is;
-  }
 
 -- ---- the parts of a step's price
 module _ (c : Costs) where
@@ -223,10 +185,6 @@ module _ (c : Costs) (good : Quantified c) (some : 0 < c .count) where
     prices = λ t l.
         rw (prices t (omega arith)) (raised c good t (omega arith) (edgeOf k) (segmentAt c) (λ j h. edges j (omega arith)) (λ j h. refl));
   }
-
-  -- the steps are the segments and the parts of the split one; their prices are the raised ones
-  pub curve-is : IsDefaultCurve c (costCurve c)
-  curve-is = made (costCurve c) count-is edge-is (λ t l. ap (λ (s : Step). s .price) (step-is t l))
 
   -- and no other curve is that
   pub curve-exactly : (k : Curve) → IsDefaultCurve c k ↔ Alike k (costCurve c)

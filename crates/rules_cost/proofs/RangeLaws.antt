@@ -10,8 +10,8 @@ use lib.Signed.{ltZ, _≤ℤ_}
 use Rattle.rules_number.specs.Order.{inRange, natOf}
 use Rattle.rules_number.proofs.Kit.{Bd, bd-between, in-lo, in-hi}
 use Rattle.rules_number.proofs.OverLaws.{both, all-at}
-use Rattle.rules_number.proofs.RangeLaws.{bd-in, rises}
-use Rattle.rules_cost.specs.Costs.{mostPoints, pointAt, mwAt, heatAt, width, mwInRange, heatInRange, rateInRange, mwSuits, pointsGood, mwGood, heatGood, chargesInRange, pricesInRange}
+use Rattle.rules_number.proofs.RangeLaws.{bd-in}
+use Rattle.rules_cost.specs.Costs.{mostPoints, mwAt, heatAt, mwInRange, heatInRange, rateInRange, mwSuits, pointsGood, mwGood, heatGood, chargesInRange, pricesInRange}
 use Rattle.rules_cost.specs.declared.Costs.{Costs}
 
 -- ---- the size of what is in range
@@ -62,10 +62,6 @@ module _ (c : Costs) (quantities : mwGood c ≡ true) where
   pub mw-rises : (i : ℕ) → suc i < c .count → ltZ (mwAt c i) (mwAt c (suc i)) ≡ true
   unfolding mwSuits
   mw-rises i l = both (mwInRange (mwAt c (suc i))) (ltZ (mwAt c i) (mwAt c (suc i))) (mw-suits (suc i) l) .1
-
-  pub has-width : (i : ℕ) → suc i < c .count → 0 < width (pointAt c i) (pointAt c (suc i))
-  unfolding width
-  has-width i l = rises (mwAt c i) (mwAt c (suc i)) (mw-rises i l)
 
 -- a number whose whole is above 0 is that whole
 pub above-zero : (z : ℤ) → 0 < natOf z → pos (natOf z) ≡ z

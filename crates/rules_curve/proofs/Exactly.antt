@@ -18,7 +18,7 @@ use Rattle.rules_curve.specs.Conditions.{noStep, stepAt, price, edge, Co
 use Rattle.rules_curve.specs.Curves.{mostBidSteps, mostSteps, chain, countGood, edgesGood, edgeSuits, pricesGood, priceSuits, curveRefusal, bidRefusal, defaultRefusal, highestBid, lowestBid, highestDefault, lowestDefault}
 use Rattle.rules_curve.specs.declared.RawCurve.{RawCurve}
 use Rattle.rules_number.proofs.ExactLaws.{le-exactly, leZ-exactly, ltZ-exactly, and-exactly, range-exactly, iff-then}
-use Rattle.rules_curve.proofs.FirstLaws.{exactly, accepted-exactly, first-more}
+use Rattle.rules_curve.proofs.FirstLaws.{exactly, first-more}
 
 -- ---- a chain over the first n of a list
 module _ {A : Type 0} (suits : ℤ → A → Bool) (key : A → ℤ) (d : A) where
@@ -178,10 +178,3 @@ module _ (c : RawCurve) (full : length (c .steps) ≡ mostSteps) where
 
   pub default-exactly : (n : ℕ) → (defaultRefusal c ≡ n) ↔ First n (defaultDemands c)
   default-exactly n = exactly (defaultDemands c) (defaultRefusal c) default-first n
-
-  -- and is taken exactly when it meets all three
-  pub bid-accepted : (month : ℕ) → (bidRefusal month c ≡ 0) ↔ (Counted 10 c × Edged c × BidPriced month c)
-  bid-accepted month = iff-then (accepted-exactly (bidDemands month c) (bidRefusal month c) (bid-first month)) (λ m. (m .0, m .1 .0, m .1 .1 .0)) (λ h. (h .0, (h .1, (h .2, tt))))
-
-  pub default-accepted : (defaultRefusal c ≡ 0) ↔ (Counted 11 c × Edged c × DefaultPriced c)
-  default-accepted = iff-then (accepted-exactly (defaultDemands c) (defaultRefusal c) default-first) (λ m. (m .0, m .1 .0, m .1 .1 .0)) (λ h. (h .0, (h .1, (h .2, tt))))

@@ -10,7 +10,7 @@ use borrow.Author.Tests.{lt-ltb, le-ltb, le-leb, lt-leb, eq-eqb, ne-eqb}
 use lib.Dec.{leb, ltb, eqb}
 use lib.ListN.{length, drop, take, getD, length-drop}
 use lib.Seq.{drop-cons}
-use Rattle.rules_gas.specs.Book.{riseFrom, daysRise, runLength, isBook, runIn, lastPrice}
+use Rattle.rules_gas.specs.Book.{riseFrom, daysRise, runLength, isBook, runIn, runRefusal, gasNumber, lastPrice}
 use Rattle.rules_gas.specs.declared.GasPrice.the-variants.{Is, Missing}
 
 at-cons : (t : List ℕ) (i : ℕ) → i < length t → drop i t ≡ getD t i 0 ∷ drop (i + 1) t
@@ -107,3 +107,9 @@ pub last-is : (l : List ℕ) → (length l ≡ 0 → ⊥) → Is (getD l (length
 unfolding lastPrice
 last-is [] h = absurd (h refl)
 last-is (x ∷ l) h = let n : length (x ∷ l) - 1 ≡ length l = omega arith in ap (λ (i : ℕ). Is (getD (x ∷ l) i 0)) n
+
+-- and its number
+pub last-number : (l : List ℕ) → gasNumber (lastPrice l) ≡ runRefusal l
+unfolding lastPrice
+last-number [] = refl
+last-number (x ∷ l) = rw (le-leb 1 (length (x ∷ l)) (omega arith)) refl

@@ -9,11 +9,12 @@ use borrow.Author.Tests.{ltb-false}
 use lib.Dec.{ltb}
 use lib.ListN.{length, take}
 use Rattle.rules_number.proofs.OverLaws.{le-or-lt}
-use Rattle.rules_gas.specs.Book.{runLength, runIn, chosen, lastPrice, priceInUse}
+use Rattle.rules_gas.specs.Book.{runLength, runIn, chosen, gasRun, bookRefusal, gasNumber, gasValue, lastPrice, priceInUse}
 use Rattle.rules_gas.specs.Meaning.{Entry, entries, entryAt, dayAt, Rising, Book, Later, InUse}
 use Rattle.rules_gas.specs.declared.GasMarket.{GasMarket}
 use Rattle.rules_gas.specs.declared.GasPrice.{GasPrice}
 use Rattle.rules_gas.specs.declared.GasPrice.the-variants.{Is, Missing}
+use Rattle.rules_gas.proofs.BookLaws.{last-number}
 use Rattle.rules_gas.proofs.EntryLaws.{entry, rising-rest}
 use Rattle.rules_gas.proofs.GasRun.{front, front-none, book-run}
 
@@ -103,21 +104,11 @@ found day (d ∷ []) r h = absurd (h refl)
 found day (d ∷ p ∷ l) r h = found-by day d p l (ltb day d) refl r h (found day l (rising-rest (entry d p) (entries l) r))
 
 -- ---- both ways
-number : GasPrice → ℕ
-number (Is p) = p
-number Missing = 0
-
 is-only : (p q : ℕ) → Is p ≡ Is q → p ≡ q
-unfolding number
-is-only p q e = ap number e
-
-isPrice : GasPrice → ℕ
-isPrice (Is p) = 1
-isPrice Missing = 0
+is-only p q e = ap gasValue e
 
 no-price : (p : ℕ) → Missing ≡ Is p → ⊥
-unfolding isPrice
-no-price p e = let z : _≡_ {A = ℕ} 0 1 = ap isPrice e in omega arith
+no-price p e = let z : _≡_ {A = ℕ} 21 0 = ap gasNumber e in omega arith
 
 pub last-none : (run : List ℕ) → (lastPrice run ≡ Missing) ↔ (run ≡ [])
 unfolding lastPrice
@@ -159,3 +150,18 @@ from-its-day day es i r l h next = record {
         (λ (b : j ≤ i). same-or-lower es r j i b l)
         (λ (b : i < j). let n = next (omega arith) in let d = same-or-lower es r (suc i) j (omega arith) m in absurd (omega arith))
         (le-or-lt j i)
+
+-- ---- the numbers of an answer: 21 exactly where there is no price
+pub gas-number : (g : GasPrice) → ((gasNumber g ≡ 21) ↔ (g ≡ Missing)) × ((gasNumber g ≡ 0) ↔ (g ≡ Is (gasValue g)))
+gas-number (Is p) = (((λ h. absurd (omega arith)), λ h. absurd (no-price p (sym h))), ((λ h. refl), λ h. refl))
+gas-number Missing = (((λ h. refl), λ h. refl), ((λ h. absurd (omega arith)), λ h. absurd (no-price 0 h)))
+
+-- "an empty part handed back means 21"
+pub book-number : (market : GasMarket) (day : ℕ) (ahead real : List ℕ)
+    → (gasNumber (priceInUse market day ahead real) ≡ bookRefusal market day ahead real) × ((bookRefusal market day ahead real ≡ 21) ↔ (gasRun market day ahead real ≡ []))
+book-number market day ahead real =
+    let run = gasRun market day ahead real in
+    let e = last-number run in
+    let n = gas-number (lastPrice run) .0 in
+    let b = last-none run in
+    (e, ((λ h. b .0 (n .0 (e ∙ h))), λ h. sym e ∙ n .1 (b .1 h)))

@@ -4,6 +4,7 @@ use mathlib.Core.List.{List, [], _∷_}
 use Prim.Native.Nat.{ℕ, suc, _%_}
 use lib.Dec.{leb, ltb, eqb}
 use lib.ListN.{length, take, getD}
+use Rattle.rules_curve.specs.Refusals.{unless}
 use Rattle.rules_gas.specs.declared.GasMarket.{GasMarket}
 use Rattle.rules_gas.specs.declared.GasMarket.the-variants.{DayAhead, RealTime}
 use Rattle.rules_gas.specs.declared.GasPrice.{GasPrice}
@@ -45,6 +46,22 @@ chosen RealTime ahead real = real
 
 abbrev pub gasRun : GasMarket → ℕ → List ℕ → List ℕ → List ℕ
 gasRun market day ahead real = runIn day (chosen market ahead real)
+
+-- "an empty part handed back means 21"
+abbrev pub runRefusal : List ℕ → ℕ
+runRefusal run = unless (leb 1 (length run)) 21
+
+abbrev pub bookRefusal : GasMarket → ℕ → List ℕ → List ℕ → ℕ
+bookRefusal market day ahead real = runRefusal (gasRun market day ahead real)
+
+-- the paper's number of what a book answers, 0 where there is a price in use, and that price
+abbrev pub gasNumber : GasPrice → ℕ
+gasNumber (Is price) = 0
+gasNumber Missing = 21
+
+abbrev pub gasValue : GasPrice → ℕ
+gasValue (Is price) = price
+gasValue Missing = 0
 
 -- "The last entry of the run is the price in use": a run ends with that entry's price
 unfoldable pub lastPrice : List ℕ → GasPrice

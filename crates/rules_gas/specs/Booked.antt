@@ -2,14 +2,14 @@
 use mathlib.Core.List.{List}
 use Prim.Native.Nat.{ℕ}
 use lib.IntN.{pos}
-use Rattle.rules_curve.specs.Curves.{blankCurve, unlessRefused}
+use Rattle.rules_curve.specs.Curves.{unlessRefused}
+use Rattle.rules_curve.specs.Refusals.{_then_}
 use Rattle.rules_curve.specs.declared.Curve.{Curve}
 use Rattle.rules_cost.specs.Costs.{costRefusal, costCurve}
 use Rattle.rules_cost.specs.declared.Costs.{Costs}
-use Rattle.rules_gas.specs.Book.{runIn, lastPrice, priceInUse}
+use Rattle.rules_gas.specs.Book.{gasNumber, gasValue, runIn, lastPrice, priceInUse}
 use Rattle.rules_gas.specs.declared.GasMarket.{GasMarket}
 use Rattle.rules_gas.specs.declared.GasPrice.{GasPrice}
-use Rattle.rules_gas.specs.declared.GasPrice.the-variants.{Is, Missing}
 
 -- the costs with this gas price; what they had in its place counts for nothing
 unfoldable pub withGas : Costs → ℕ → Costs
@@ -27,12 +27,10 @@ withGas c price = record {
 
 -- 21 where there is no price in use, then 4 to 8
 abbrev pub pricedRefusal : GasPrice → Costs → ℕ
-pricedRefusal Missing c = 21
-pricedRefusal (Is price) c = costRefusal (withGas c price)
+pricedRefusal p c = gasNumber p then costRefusal (withGas c (gasValue p))
 
 abbrev pub pricedCurve : GasPrice → Costs → Curve
-pricedCurve Missing c = blankCurve
-pricedCurve (Is price) c = unlessRefused (costRefusal (withGas c price)) (costCurve (withGas c price))
+pricedCurve p c = unlessRefused (pricedRefusal p c) (costCurve (withGas c (gasValue p)))
 
 -- the default curve with the book's price, of the list that is chosen
 abbrev pub listRefusal : ℕ → List ℕ → Costs → ℕ

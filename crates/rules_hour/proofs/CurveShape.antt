@@ -1,17 +1,17 @@
 -- The curve of a resource in an hour that calls on an accepted opening leave (paper 01, Interval and hour):
 -- "Neighbouring steps with one price are merged, in the opened hour too; 19 steps always suffice", 20 since a default curve may have 11.
 use mathlib.Core.List.{List, []}
-use mathlib.Core.Path.{_≡_, refl, ap, _∙_, subst}
+use mathlib.Core.Path.{_≡_, ap, _∙_, subst}
 use Prim.Native.Nat.{ℕ, _≤_, _<_}
 use Rattle.rules_curve.specs.declared.Step.{Step}
-use Rattle.rules_mitigation.specs.Mitigation.{segmentsN, joined, mostMitigatedSteps, blankMitigated, mitigated, usedSteps}
+use Rattle.rules_mitigation.specs.Mitigation.{mostMitigatedSteps, mitigated, usedSteps}
 use Rattle.rules_mitigation.specs.Meaning.{IsMitigated}
 use Rattle.rules_mitigation.specs.declared.Mitigated.{Mitigated}
 use Rattle.rules_mitigation.specs.declared.FloorPrice.{FloorPrice}
 use Rattle.rules_mitigation.specs.declared.FloorPrice.the-variants.{Uncut}
 use Rattle.rules_mitigation.proofs.MitigatedCurve.{mitigated-is, mitigated-only, twenty-suffice}
 use Rattle.rules_interval.specs.declared.Interval.{Interval}
-use Rattle.rules_hour.specs.Hours.{uncut, noRow, rowCurve, floorIn, curveIn, hourAfterAll}
+use Rattle.rules_hour.specs.Hours.{uncut, floorIn, curveIn, hourAfterAll}
 use Rattle.rules_opening.specs.Openings.{openingRefusal}
 use Rattle.rules_hour.specs.Opened.{openedHour}
 use Rattle.rules_hour.specs.Demand3.{submitted, defaultOf, hourOf, curveAfter}
@@ -20,11 +20,6 @@ use Rattle.rules_hour.specs.Hours.{Hour}
 use Rattle.rules_opening.specs.declared.Opening.{Opening}
 use Rattle.rules_hour.proofs.AcceptedOpening.{opened-hour, bid-sound, default-sound, bid-inside, fresh-floor}
 use Rattle.rules_hour.proofs.KeptLaws.{Kept, hour-kept, kept-curve}
-
--- a row past the end is as blank as can be
-pub no-row : rowCurve noRow uncut ≡ blankMitigated
-unfolding mitigated segmentsN joined
-no-row = refl
 
 -- What the curve c of resource r is where its floor price is k: the bid with each quantity at the smaller of its price and its cap, its prices never falling and
 -- no two neighbours with one price; it is the only such curve, and 20 steps suffice.

@@ -5,8 +5,8 @@ use mathlib.Core.Path.{_≡_, refl}
 use Prim.Native.Nat.{ℕ, _≤_, _<_}
 use borrow.Author.Tests.{ltb-true, lt-ltb}
 use lib.Dec.{ltb}
-use Rattle.rules_curve.specs.Demands.{_asks_, First, Met}
-use Rattle.rules_curve.proofs.FirstLaws.{exactly, accepted-exactly, first-then, first-more}
+use Rattle.rules_curve.specs.Demands.{_asks_, First}
+use Rattle.rules_curve.proofs.FirstLaws.{exactly, first-then, first-more}
 use Rattle.rules_interval.specs.Conditions.{intervalDemands}
 use Rattle.rules_interval.specs.Intervals.{intervalRefusal}
 use Rattle.rules_interval.specs.declared.Interval.{Interval}
@@ -28,7 +28,3 @@ module _ (m : Market) (s : Standing) (v : Interval) (few : m .resources ≤ 64) 
   -- a call is refused with n exactly when n is the number of the first demand that is not met
   pub call-exactly : (n : ℕ) → (callRefusal m s v ≡ n) ↔ First n (callDemands (s .accepted) (m .resources) v)
   call-exactly n = exactly (callDemands (s .accepted) (m .resources) v) (callRefusal m s v) call-first n
-
-  -- "An interval call is accepted exactly when none of 12 to 16 applies"
-  pub call-accepted : (callRefusal m s v ≡ 0) ↔ Met (callDemands (s .accepted) (m .resources) v)
-  call-accepted = accepted-exactly (callDemands (s .accepted) (m .resources) v) (callRefusal m s v) call-first

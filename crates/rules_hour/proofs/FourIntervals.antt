@@ -52,10 +52,6 @@ module _ (o : Opening) (calls : List Interval) (accepted : openingRefusal o ≡ 
   count : hourOf o calls .standing .accepted ≡ length (acceptedCalls o calls)
   count = hour-count o accepted calls 0 (few o accepted .1)
 
-  -- "4 intervals an hour"
-  pub hour-at-most-four : hourOf o calls .standing .accepted ≤ 4
-  hour-at-most-four = rw count (at-most-four o calls)
-
   module _ (v : Interval) where
     -- the next call's number, from the opening data and the calls alone
     pub next-refusal : hourRefusal (hourOf o calls) v ≡ (unless (ltb (length (acceptedCalls o calls)) 4) 12 then intervalRefusal (o .resources) v)

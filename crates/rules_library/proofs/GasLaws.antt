@@ -4,8 +4,7 @@ use mathlib.Core.List.{List, [], _∷_}
 use mathlib.Core.Logic.{_↔_}
 use mathlib.Core.Path.{_≡_, refl, ap}
 use native.Mathlib.Omega.{arith}
-use lib.IntN.{ℤ, pos}
-use lib.ListN.{length, getD}
+use lib.ListN.{length}
 use Rattle.rules_curve.specs.Curves.{mostSteps, unlessRefused}
 use Rattle.rules_cost.specs.Costs.{costRefusal, costCurve}
 use Rattle.rules_cost.specs.declared.Costs.{Costs}
@@ -14,9 +13,8 @@ use Rattle.rules_gas.specs.Booked.{withGas, pricedRefusal, pricedCurve, listRef
 use Rattle.rules_gas.specs.declared.GasMarket.the-variants.{DayAhead, RealTime}
 use Rattle.rules_gas.specs.declared.GasPrice.{GasPrice}
 use Rattle.rules_gas.specs.declared.GasPrice.the-variants.{Is, Missing}
-use Rattle.rules_library.specs.Gas.{listBy, runCount, gasEdges, gasPrices}
-use Rattle.rules_library.specs.Slices.{edgeCount, priceCount}
-use Rattle.rules_library.proofs.Meaning.{all-steps, edges-past, prices-past}
+use Rattle.rules_library.specs.Gas.{listBy, runCount}
+use Rattle.rules_library.proofs.Meaning.{all-steps}
 
 -- ---- markets by number
 pub record ByNumber (day : ℕ) (ahead real : List ℕ) : Type 0 where
@@ -56,17 +54,11 @@ empty-is-0 market day ahead real = (go (runIn day (listBy market ahead real)), a
     go [] h = refl
     go (x ∷ l) h = absurd (omega arith)
 
--- ---- nothing past 13 edges and 11 prices is written
+-- ---- a curve at a book's price has eleven steps
 unless-steps : (c : Costs) (n : ℕ) → costRefusal c ≡ n → n ≡ 0 → length (unlessRefused n (costCurve c) .steps) ≡ mostSteps
 unless-steps c zero e z = all-steps c e
 unless-steps c (suc n) e z = absurd (omega arith)
 
-priced-steps : (g : GasPrice) (c : Costs) → pricedRefusal g c ≡ 0 → length (pricedCurve g c .steps) ≡ mostSteps
+pub priced-steps : (g : GasPrice) (c : Costs) → pricedRefusal g c ≡ 0 → length (pricedCurve g c .steps) ≡ mostSteps
 priced-steps Missing c z = absurd (omega arith)
 priced-steps (Is p) c z = unless-steps (withGas c p) (costRefusal (withGas c p)) refl z
-
-pub gas-past : (edges : List ℕ) (prices : List ℤ) (day : ℕ) (l : List ℕ) (c : Costs)
-    → ((k : ℕ) → edgeCount ≤ k → getD (gasEdges edges prices day l c) k 0 ≡ getD edges k 0) × ((k : ℕ) → priceCount ≤ k → getD (gasPrices edges prices day l c) k (pos 0) ≡ getD prices k (pos 0))
-gas-past edges prices day l c =
-    let whole = priced-steps (lastPrice (runIn day l)) c in
-    (edges-past edges prices (listRefusal day l c) (listCurve day l c) whole, prices-past edges prices (listRefusal day l c) (listCurve day l c) whole)

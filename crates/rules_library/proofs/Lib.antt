@@ -3,3 +3,5 @@ pub mod Meaning
 pub mod Examples
 pub mod GasLaws
 pub mod SliceLaws
+pub mod DefaultAnswers
+pub mod ExactBids

@@ -19,7 +19,7 @@ use Rattle.rules_cost.specs.declared.Costs.{Costs}
 use Rattle.rules_run.specs.Run.{Ended, runRoom, ranWithin, ranTo}
 use Rattle.rules_cost.proofs.EdgeLaws.{eleven-suffice}
 use Rattle.rules_library.specs.Answers.{ranNumber, toldRoom, toldAnswer, toldPage, toldAfter}
-use Rattle.rules_library.specs.Slices.{edgeCount, priceCount, edgesOf, pricesOf, hasRoom, putAnswer, ifWritten, edgesWith, pricesWith, edgesAfter, pricesAfter}
+use Rattle.rules_library.specs.Slices.{edgeCount, priceCount, edgesOf, pricesOf, hasRoom, putAnswer, ifWritten, edgesWith, pricesWith}
 
 -- the steps of a curve from accepted costs
 pub all-steps : (c : Costs) → costRefusal c ≡ 0 → length (costCurve c .steps) ≡ mostSteps
@@ -82,12 +82,6 @@ unless-written edges prices (suc n) curve =
     let a = refused-kept edges prices (suc n) blankCurve n refl in
     let b = refused-kept edges prices (suc n) curve n refl in
     (a .0 ∙ sym (b .0), a .1 ∙ sym (b .1))
-
--- nothing past 13 edges and 11 prices is written by the default curve from costs
-pub default-past : (edges : List ℕ) (prices : List ℤ) (c : Costs)
-    → ((k : ℕ) → edgeCount ≤ k → getD (edgesAfter edges prices c) k 0 ≡ getD edges k 0) × ((k : ℕ) → priceCount ≤ k → getD (pricesAfter edges prices c) k (pos 0) ≡ getD prices k (pos 0))
-default-past edges prices c =
-    (edges-past edges prices (costRefusal c) (costCurve c) (all-steps c), prices-past edges prices (costRefusal c) (costCurve c) (all-steps c))
 
 -- ---- a run's answer: how many bytes were printed, or -1 where the page is too small
 module _ (page printed : List ℕ) (e : Ended) where

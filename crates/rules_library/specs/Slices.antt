@@ -13,7 +13,7 @@ use Rattle.rules_curve.specs.declared.Curve.{Curve}
 use Rattle.rules_cost.specs.Costs.{mostPoints, costRefusal, costCurve}
 use Rattle.rules_cost.specs.declared.Point.{Point}
 use Rattle.rules_cost.specs.declared.Costs.{Costs}
-use Rattle.rules_curve.specs.Curves.{mostSteps}
+use Rattle.rules_curve.specs.Curves.{mostSteps, stepsOf}
 
 -- the number at an index; past the end it is 0
 abbrev pub cellAt : List ℤ → ℕ → ℤ
@@ -56,9 +56,9 @@ costsIn count points charges = record {
 }
 
 -- ---- a default curve
--- a curve as two lists: the number of steps, the start and the ends; and the prices
+-- a curve as two lists: the number of steps that it uses, the start and the ends; and the prices. A count past its room uses all
 abbrev pub edgesOf : Curve → List ℕ
-edgesOf c = c .count ∷ c .start ∷ map (λ s. s .end) (c .steps)
+edgesOf c = length (stepsOf c) ∷ c .start ∷ map (λ s. s .end) (c .steps)
 
 abbrev pub pricesOf : Curve → List ℤ
 pricesOf c = map (λ s. s .price) (c .steps)

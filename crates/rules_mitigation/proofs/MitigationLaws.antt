@@ -36,10 +36,6 @@ module _ (floor : FloorPrice) (bid default : Curve) where
   pub mitigated-all : length (stepsOf bid) ≤ mostBidSteps → mitigatedSteps floor bid default ≡ joined (segments (capped floor) (bid .start) (stepsOf bid) (stepsOf default))
   mitigated-all few = rw (bid-steps bid few)
 
-  pub mitigated-start : mitigated floor bid default .start ≡ bid .start
-  unfolding mitigated
-  mitigated-start = refl
-
   pub mitigated-used : usedSteps (mitigated floor bid default) ≡ mitigatedSteps floor bid default
   unfolding mitigated
   mitigated-used = padded-used mostMitigatedSteps blankStep (mitigatedSteps floor bid default)

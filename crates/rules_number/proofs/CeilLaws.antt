@@ -20,11 +20,6 @@ ceil-unique n r w p h k =
     eq-by (var r) (var (ceilDiv n w))
     (omega (arith, squeeze r (ceilDiv n w) n w k (ceil-ge n w p), squeeze (ceilDiv n w) r n w (ceil-lt n w p) h))
 
-pub ceil-mono : (n m : ℤ) (w : ℕ) → 0 < w → n ≤ℤ m → ceilDiv n w ≤ℤ ceilDiv m w
-ceil-mono n m w p h =
-    le-by (var (ceilDiv n w)) (var (ceilDiv m w))
-    (omega (arith, squeeze (ceilDiv n w) (ceilDiv m w) n w (ceil-lt n w p) (le-by (var n) (var (ceilDiv m w *ℤ pos w)) (omega (arith, le-from (var n) (var m) h, le-from (var m) (var (ceilDiv m w *ℤ pos w)) (ceil-ge m w p))))))
-
 -- a whole number comes out
 pub ceil-shift : (a n : ℤ) (w : ℕ) → 0 < w → ceilDiv (a *ℤ pos w +ℤ n) w ≡ a +ℤ ceilDiv n w
 ceil-shift a n w p =

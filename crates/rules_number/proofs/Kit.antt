@@ -44,9 +44,6 @@ sub-dif a b = go (ltb a b) refl
     go true e = omega (arith, ltb-true a b e)
     go false e = omega (arith, ltb-false a b e)
 
-pub sub-nat : (a b : ℕ) → Diff (subℕ a b) a b
-sub-nat a b = record { dif = sub-dif a b }
-
 add-dif : (x y : ℤ) → P (x +ℤ y) + (N x + N y) ≡ (P x + P y) + N (x +ℤ y)
 add-dif (pos a) (pos b) = omega arith
 add-dif (pos a) (negsuc b) = omega (arith, sub-dif a (suc b))
@@ -270,10 +267,6 @@ in-hi lo hi x e = record { le = and-r (leZ lo x) (leZ x hi) e }
 pub nat-of : {x : ℤ} → pos 0 ≤ℤ x → pos (natAbs x) ≡ x
 nat-of {x} h = pos-natAbs x (yes-nonNeg h)
 
-pub nat-le : {x : ℤ} {B : ℕ} → pos 0 ≤ℤ x → x ≤ℤ pos B → natAbs x ≤ B
-nat-le {x = pos n} {B} h k = leb→le n B (k .le)
-nat-le {x = negsuc n} h k = absurd (h .le)
-
 -- what the machine reads back from the bits of an i64
 abbrev pub rd : ℤ → ℤ
 rd x = toZ w64 (ofZ w64 x)
@@ -308,14 +301,8 @@ module _ {x y : ℤ} (f : SFits w64 x) (g : SFits w64 y) where
   pub when-le : leZ (rd x) (rd y) ≡ true → x ≤ℤ y
   when-le e = record { le = is-T (simp toZ-ofZ at e) }
 
-  pub when-lt : ltZ (rd x) (rd y) ≡ true → x <ℤ y
-  when-lt e = record { lt = is-T (simp toZ-ofZ at e) }
-
   pub else-le : leZ (rd x) (rd y) ≡ false → y <ℤ x
   else-le e = lt-by (var y) (var x) (le-false x y (simp toZ-ofZ at e))
-
-  pub else-lt : ltZ (rd x) (rd y) ≡ false → y ≤ℤ x
-  else-lt e = le-by (var y) (var x) (lt-false x y (simp toZ-ofZ at e))
 
 pub bd-abs : {z : ℤ} {A : ℕ} → natAbs z ≤ A → Bd A z
 bd-abs {z = pos n} h = record { bd = omega arith }
@@ -327,9 +314,6 @@ abs-bd {z = negsuc n} h = omega (arith, h .bd)
 
 pub bd-pos : {n A : ℕ} → n ≤ A → Bd A (pos n)
 bd-pos h = record { bd = omega arith }
-
-pub pos-lt : {n : ℕ} → 0 < n → pos 0 <ℤ pos n
-pos-lt {n} h = record { lt = lt→ltb 0 n h }
 
 -- a call's result that is read back: `came (c .f .result) (c .f .ok)`, with the range that the call gives
 pub came : (z : ℤ) → mag z < 2 ^ 63 → rd z ≡ z

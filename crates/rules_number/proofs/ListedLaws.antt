@@ -1,11 +1,11 @@
 -- Arrays whose cells a function gives.
-use mathlib.Core.List.{List, [], _∷_, append-assoc, append-nil}
+use mathlib.Core.List.{List, [], _∷_, append-nil}
 use mathlib.Core.Path.{_≡_, sym, _∙_}
-use Prim.Native.Nat.{ℕ, suc, _+_, _-_, _<_}
+use Prim.Native.Nat.{ℕ, _-_, _<_}
 use native.Mathlib.Nat.{le-trans, le-of-eq}
 use native.Mathlib.Decide.{ℕ-discrete}
 use native.Mathlib.Omega.{arith}
-use lib.ListN.{length, getD, set, replicate, length-set, length-append}
+use lib.ListN.{length, getD, set, length-set}
 use lib.Seq.{getD-set-same, getD-set-other, ext-getD}
 use Rattle.rules_number.specs.Over.{listed, padded}
 use Rattle.rules_number.proofs.OverLaws.{listed-at, listed-length}
@@ -24,14 +24,6 @@ listed-set {A} b f g n p x h e same = listed-is b (set (listed f n) p x) g n (le
     go q l (no z) = getD-set-other (listed f n) p q x b z ∙ listed-at f b n q l ∙ same q z
 
 module _ {A : Type 0} (n : ℕ) (b : A) (f : ℕ → A) where
-  -- a cell that keeps the padding
-  pub padded-kept : (i : ℕ) → i < n → f i ≡ b → padded n b (listed f i) ≡ padded n b (listed f (suc i))
-  unfolding padded listed
-  padded-kept i h e =
-      let z : n - i ≡ suc (n - suc i) = omega arith in
-      let o : i + 1 ≡ suc i = omega arith in
-      rw (length-append (listed f i) (f i ∷ []), listed-length f i, z, o, e) (sym (append-assoc (listed f i) (b ∷ []) (replicate (n - suc i) b)))
-
   -- no cell is left
   pub padded-full : padded n b (listed f n) ≡ listed f n
   unfolding padded

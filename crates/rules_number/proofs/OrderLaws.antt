@@ -62,9 +62,6 @@ module _ (a b : ℤ) where
 pub min-assoc : (a b c : ℤ) → minZ (minZ a b) c ≡ minZ a (minZ b c)
 min-assoc a b c = eq-parts (simp P-min (omega arith)) (simp N-min (omega arith))
 
-pub min-comm : (a b : ℤ) → minZ a b ≡ minZ b a
-min-comm a b = eq-parts (simp P-min (omega arith)) (simp N-min (omega arith))
-
 pub max-over-min : (d l l' : ℤ) → minZ (maxZ d l) (maxZ d l') ≡ maxZ d (minZ l l')
 max-over-min d l l' = eq-parts (simp (P-min, P-max) (omega arith)) (simp (N-min, N-max) (omega arith))
 

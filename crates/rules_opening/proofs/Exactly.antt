@@ -70,7 +70,7 @@ module _ (o : Opening) where
     each-first : Limited o → First (eachTo (λ r. resourceRefusal (natOf (o .month)) (resource o r)) (o .resources)) (eachResource o)
     each-first h =
         first-each (λ r. resourceRefusal (natOf (o .month)) (resource o r)) (λ r. resourceDemands (natAbs (o .month)) (resource o r)) (o .resources)
-        (λ r l. rw (month-is (o .month) (h .month .0)) (resource-first (natAbs (o .month)) (resource o r) (full r l)))
+        (λ r l. rw (month-is (o .month) (h .month .0)) (resource-first (natAbs (o .month)) (resource o r) (full r l (omega (arith, h .resources .1)))))
 
     -- ---- the theorems
     pub opening-first : First (openingRefusal o) (openingDemands o)

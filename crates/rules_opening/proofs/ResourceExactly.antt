@@ -20,7 +20,7 @@ use Rattle.rules_curve.specs.declared.RawStep.{RawStep}
 use Rattle.rules_curve.specs.declared.RawCurve.{RawCurve}
 use Rattle.rules_curve.proofs.CheckLaws.{with-used}
 use Rattle.rules_number.proofs.ExactLaws.{leZ-exactly, and-exactly, iff-then}
-use Rattle.rules_curve.proofs.FirstLaws.{exactly, accepted-exactly, first-then, first-more}
+use Rattle.rules_curve.proofs.FirstLaws.{exactly, first-then, first-more}
 use Rattle.rules_curve.proofs.Exactly.{bid-first, default-first}
 use Rattle.rules_cost.specs.Conditions.{m}
 use Rattle.rules_cost.specs.Costs.{edgeAt, mwAt, stepCount, costStep, costCurve}
@@ -119,11 +119,3 @@ module _ (month : ℕ) (x : Resource) (full : Full x) where
   -- a resource is refused with n exactly when n is the number of the first demand that it does not meet
   pub resource-exactly : (n : ℕ) → (resourceRefusal month x ≡ n) ↔ First n (resourceDemands month x)
   resource-exactly n = exactly (resourceDemands month x) (resourceRefusal month x) resource-first n
-
-  -- and is taken exactly when it meets all
-  pub resource-accepted : (resourceRefusal month x ≡ 0) ↔ Met (resourceDemands month x)
-  resource-accepted = accepted-exactly (resourceDemands month x) (resourceRefusal month x) resource-first
-
-  -- its costs or its pack alone
-  pub source-exactly : (n : ℕ) → (sourceRefusal (x .source) x ≡ n) ↔ First n (sourceDemands (x .source) x)
-  source-exactly n = exactly (sourceDemands (x .source) x) (sourceRefusal (x .source) x) (source-first (x .source) x full) n

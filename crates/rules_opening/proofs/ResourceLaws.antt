@@ -1,16 +1,14 @@
 -- Which number a resource is refused with, and what opening it hands back. Assumes nothing.
-use mathlib.Core.Bool.{true, false}
 use mathlib.Core.List.{List, [], _∷_}
 use mathlib.Core.Path.{_≡_, refl}
 use Prim.Native.Nat.{ℕ, zero, suc, _<_}
 use native.Mathlib.Omega.{arith}
 use lib.ListN.{length, getD}
 use Rattle.rules_curve.specs.Refusals.{_then_}
-use Rattle.rules_curve.specs.Curves.{endOf, bidRefusal, blankStep, curveOf}
+use Rattle.rules_curve.specs.Curves.{endOf, bidRefusal, blankStep}
 use Rattle.rules_curve.specs.declared.Step.{Step}
 use Rattle.rules_opening.specs.declared.Resource.{Resource}
-use Rattle.rules_opening.specs.declared.Row.{Row}
-use Rattle.rules_opening.specs.Resources.{blankRow, defaultBy, liesInside, resourceRefusal, rowUnless, sourceRefusal}
+use Rattle.rules_opening.specs.Resources.{resourceRefusal, sourceRefusal}
 
 -- ---- the first refusal wins
 pub then-first : (a b : ℕ) → 0 < a → (a then b) ≡ a
@@ -28,24 +26,8 @@ end-last p zero (s ∷ []) e = refl
 end-last p zero (s ∷ t ∷ l) e = absurd (omega arith)
 end-last p (suc n) (s ∷ l) e = end-last (s .end) n l (omega arith)
 
-pub refused-row : (n : ℕ) (x : Row) → 0 < n → rowUnless n x ≡ blankRow
-refused-row zero x h = absurd (omega arith)
-refused-row (suc n) x h = refl
-
 -- ---- one resource
 module _ (month : ℕ) (x : Resource) where
   pub refused-bid : 0 < bidRefusal month (x .bid) → resourceRefusal month x ≡ bidRefusal month (x .bid)
   unfolding resourceRefusal
   refused-bid h = rw (then-first (bidRefusal month (x .bid)) (sourceRefusal (x .source) x) h) (then-first (bidRefusal month (x .bid)) _ h)
-
-  pub refused-source : bidRefusal month (x .bid) ≡ 0 → 0 < sourceRefusal (x .source) x → resourceRefusal month x ≡ sourceRefusal (x .source) x
-  unfolding resourceRefusal
-  refused-source a h = rw a (then-first (sourceRefusal (x .source) x) _ h)
-
-  pub refused-outside : bidRefusal month (x .bid) ≡ 0 → sourceRefusal (x .source) x ≡ 0 → liesInside (curveOf (x .bid)) (defaultBy (x .source) x) ≡ false → resourceRefusal month x ≡ 11
-  unfolding resourceRefusal
-  refused-outside a b c = rw (a, b, c)
-
-  pub taken-resource : bidRefusal month (x .bid) ≡ 0 → sourceRefusal (x .source) x ≡ 0 → liesInside (curveOf (x .bid)) (defaultBy (x .source) x) ≡ true → resourceRefusal month x ≡ 0
-  unfolding resourceRefusal
-  taken-resource a b c = rw (a, b, c)

@@ -37,6 +37,6 @@ eachResource o = eachOf (λ r. resourceDemands (natAbs (o .month)) (resource o r
 abbrev pub openingDemands : Opening → List Demand
 openingDemands o = (9 asks Limited o) ∷ (10 asks Known o) ∷ eachResource o
 
--- what the theorems take as given: each resource holds its curves in arrays of eleven steps
+-- what the theorems take as given: each resource that is read holds its curves in arrays of eleven steps. Every opening in a text, in numbers and by value has that
 abbrev pub EachFull : Opening → Type 0
-EachFull o = (r : ℕ) → r < o .resources → Full (resource o r)
+EachFull o = (r : ℕ) → r < o .resources → r < 64 → Full (resource o r)

@@ -1,8 +1,8 @@
 -- The lines of sellers: exactly the bits of the mask, each once, with that seller's amount, the larger first. Assumes nothing.
 use mathlib.Core.Bool.{Bool, true, false}
-use mathlib.Core.List.{List, [], _∷_, map, List·Memᴰ, List·Memᴰ·head, List·Memᴰ·tail, Memᴰ·map, Memᴰ·of-map}
+use mathlib.Core.List.{List, [], _∷_, map, List·Memᴰ, List·Memᴰ·head, List·Memᴰ·tail}
 use mathlib.Core.Logic.{_↔_}
-use mathlib.Core.Path.{_≡_, refl, sym, ap, ap₂, subst, _∙_}
+use mathlib.Core.Path.{_≡_, refl, sym, ap, ap₂, _∙_}
 use Prim.Native.Nat.{ℕ, _≤_, _<_}
 use native.Mathlib.Nat.{le-trans}
 use native.Mathlib.Omega.{arith}
@@ -36,16 +36,6 @@ pub lines-only : (d : Path) (amount : ℕ → ℕ) (k l : List Row) → SellerLi
 lines-only d amount k l s t =
     let is = isNamed (verdictOf d) in
     s .lines ∙ ap (map (sellerLine amount)) (sellers-only amount is (s .who) (s .order) ∙ sym (sellers-only amount is (t .who) (t .order))) ∙ sym (t .lines)
-
--- a line stands among them exactly when it is that of a seller named, with its amount
-pub line-exactly : (d : Path) (amount : ℕ → ℕ) (rows : List Row) → SellerLines d amount rows
-    → (x : Row) → List·Memᴰ x rows ↔ ((p : ℕ) × (bit p (verdictOf d .named) ≡ 1) × (sellerLine amount p ≡ x))
-line-exactly d amount rows s x = (
-  (λ m. let w = Memᴰ·of-map (sellerLine amount) (s .who) (subst (List·Memᴰ x) (s .lines) m) in (w .0, s .exactly (w .0) .0 (w .1), w .2)),
-  λ h.
-      subst (List·Memᴰ x) (sym (s .lines))
-      (subst (λ (y : Row). List·Memᴰ y (map (sellerLine amount) (s .who))) (h .2) (Memᴰ·map (sellerLine amount) (s .exactly (h .0) .1 (h .1)))),
-)
 
 -- of at most 16 portfolios
 module _ (d : Path) (few : d .portfolios ≤ 16) where

@@ -15,6 +15,7 @@ use lib.Seq.{getD-set-same, getD-set-other}
 use lib.IntN.{ℤ, pos}
 use Rattle.rules_number.specs.Over.{listed}
 use Rattle.rules_number.proofs.ListedLaws.{listed-is}
+use Rattle.rules_number.proofs.OverLaws.{le-or-lt}
 use Rattle.rules_text.specs.Numbers.{Line, Row, row}
 use Rattle.rules_text.specs.Tables.{run, rows}
 use Rattle.rules_text.proofs.ListLaws.{and-false}
@@ -105,36 +106,59 @@ unfolding withFactors
 stores-length a [] = refl
 stores-length a (f ∷ l) = stores-length (withFactor a (factorRow f)) l ∙ length-set a (factorCell (f .resource) (f .constraint)) (f .factor)
 
-module _ (n m : ℕ) (few : n ≤ 64) (narrow : m ≤ 32) where
-  cell-is : (f : GivenFactor) → FactorFits n m f → factorCell (f .resource) (f .constraint) ≡ f .resource * 32 + f .constraint
-  cell-is f h = rw (lt-ltb (f .resource) 64 (omega (arith, h .resource)), lt-ltb (f .constraint) 32 (omega (arith, h .constraint))) refl
+-- the cell of a factor that has one, and of one past the 64 resources or the 32 constraints
+cell-is : (r c : ℕ) → r < 64 → c < 32 → factorCell r c ≡ r * 32 + c
+cell-is r c h k = rw (lt-ltb r 64 h, lt-ltb c 32 k) refl
 
-  cells : (a : List ℤ) (fs : List GivenFactor) → length a ≡ 2048 → Every (FactorFits n m) fs → Rising fs
-      → (q : ℕ) → q < 2048 → getD (withFactors a (map factorRow fs)) q (pos 0) ≡ factorElse (getD a q (pos 0)) fs (q / 32) (q % 32)
-  unfolding withFactors factorElse
-  cells a [] e h r q k = refl
-  cells a (f ∷ fs) e (and-all v h) r q k =
-      let t = tail-above f fs r in
-      let j = f .resource * 32 + f .constraint in
-      let b = set a j (f .factor) in
-      ap (λ (i : ℕ). getD (withFactors (set a i (f .factor)) (map factorRow fs)) q (pos 0)) (cell-is f v)
-      ∙ cells b fs (length-set a j (f .factor) ∙ e) h (t .1) q k
-      ∙ go (t .0) (ℕ-discrete q j)
+no-cell : (r c : ℕ) → (64 ≤ r) ⊎ (32 ≤ c) → factorCell r c ≡ 2048
+no-cell r c (inl h) = rw (le-ltb r 64 h) refl
+no-cell r c (inr h) = ap (λ (b : Bool). cond (ltb r 64 && b) (r * 32 + c) 2048) (le-ltb c 32 h) ∙ ap (λ (b : Bool). cond b (r * 32 + c) 2048) (and-false (ltb r 64))
+
+-- one factor stored: its cell has it, every other what it had
+module _ (a : List ℤ) (r c : ℕ) (z : ℤ) (q : ℕ) (long : length a ≡ 2048) (k : q < 2048) where
+  abbrev Stored : Type 0
+  Stored = getD (set a (factorCell r c) z) q (pos 0) ≡ cond (eqb r (q / 32) && eqb c (q % 32)) z (getD a q (pos 0))
+
+  there : r < 64 → c < 32 → Stored
+  there h j = rw (cell-is r c h j) (go (ℕ-discrete q (r * 32 + c)))
     where
-      go : Every (Before f) fs → Dec (q ≡ f .resource * 32 + f .constraint)
-          → factorElse (getD (set a (f .resource * 32 + f .constraint) (f .factor)) q (pos 0)) fs (q / 32) (q % 32) ≡ factorElse (getD a q (pos 0)) (f ∷ fs) (q / 32) (q % 32)
-      go t (yes z) =
-          let r' : q / 32 ≡ f .resource = omega (arith, v .constraint) in
-          let c' : q % 32 ≡ f .constraint = omega (arith, v .constraint) in
-          let j = f .resource * 32 + f .constraint in
-          let at : getD (set a j (f .factor)) q (pos 0) ≡ f .factor = rw z (getD-set-same a j (f .factor) (pos 0) (omega arith)) in
-          rw (r', c', at, eq-eqb (f .resource) (f .resource) refl, eq-eqb (f .constraint) (f .constraint) refl) (absent (f .factor) f fs t)
-      go t (no z) =
-          let j = f .resource * 32 + f .constraint in
-          let at : getD (set a j (f .factor)) q (pos 0) ≡ getD a q (pos 0) = getD-set-other a j q (f .factor) (pos 0) z in
-          rw (at, other (f .resource) (f .constraint) (q / 32) (q % 32) (λ x y. z (omega arith))) refl
+      go : Dec (q ≡ r * 32 + c) → getD (set a (r * 32 + c) z) q (pos 0) ≡ cond (eqb r (q / 32) && eqb c (q % 32)) z (getD a q (pos 0))
+      go (yes e) =
+          let x : r ≡ q / 32 = omega arith in
+          let y : c ≡ q % 32 = omega arith in
+          rw (eq-eqb r (q / 32) x, eq-eqb c (q % 32) y, e) (getD-set-same a (r * 32 + c) z (pos 0) (omega arith))
+      go (no e) = rw (other r c (q / 32) (q % 32) (λ x y. e (omega arith))) (getD-set-other a (r * 32 + c) q z (pos 0) e)
 
-  -- every cell: the row's value, 0 where absent
-  pub cells-back : (fs : List GivenFactor) → Every (FactorFits n m) fs → Rising fs → withFactors (replicate 2048 (pos 0)) (map factorRow fs) ≡ listed (λ q. factorOf fs (q / 32) (q % 32)) 2048
-  cells-back fs h r = listed-is (pos 0) (withFactors (replicate 2048 (pos 0)) (map factorRow fs)) (λ q. factorOf fs (q / 32) (q % 32)) 2048 (stores-length (replicate 2048 (pos 0)) fs ∙ length-replicate 2048 (pos 0))
-      (λ q k. cells (replicate 2048 (pos 0)) fs (length-replicate 2048 (pos 0)) h r q k ∙ ap (λ (d : ℤ). factorElse d fs (q / 32) (q % 32)) (getD-replicate 2048 q (pos 0) (pos 0) k) ∙ else-zero fs (q / 32) (q % 32))
+  past : (64 ≤ r) ⊎ (32 ≤ c) → Stored
+  past h =
+      rw (no-cell r c h, other r c (q / 32) (q % 32) (λ x y. ⊎-elim (λ p. omega arith) (λ p. omega arith) h))
+      (getD-set-other a 2048 q z (pos 0) (λ e. omega arith))
+
+  stored : Stored
+  stored = ⊎-elim (λ h. past (inl h)) (λ h. ⊎-elim (λ j. past (inr j)) (there h) (le-or-lt 32 c)) (le-or-lt 64 r)
+
+-- no later factor stands in its cell
+first-stored : (d : ℤ) (f : GivenFactor) (fs : List GivenFactor) (r c : ℕ) → Every (Before f) fs
+    → factorElse (cond (eqb (f .resource) r && eqb (f .constraint) c) (f .factor) d) fs r c ≡ factorElse d (f ∷ fs) r c
+unfolding factorElse
+first-stored d f fs r c h = go (ℕ-discrete (f .resource) r) (ℕ-discrete (f .constraint) c)
+  where
+    go : Dec (f .resource ≡ r) → Dec (f .constraint ≡ c) → factorElse (cond (eqb (f .resource) r && eqb (f .constraint) c) (f .factor) d) fs r c ≡ factorElse d (f ∷ fs) r c
+    go (yes x) (yes y) = rw (← x, ← y, eq-eqb (f .resource) (f .resource) refl, eq-eqb (f .constraint) (f .constraint) refl) (absent (f .factor) f fs h)
+    go (yes x) (no y) = rw (other (f .resource) (f .constraint) r c (λ u w. y w)) refl
+    go (no x) e = rw (other (f .resource) (f .constraint) r c (λ u w. x u)) refl
+
+cells : (a : List ℤ) (fs : List GivenFactor) → length a ≡ 2048 → Rising fs → (q : ℕ) → q < 2048
+    → getD (withFactors a (map factorRow fs)) q (pos 0) ≡ factorElse (getD a q (pos 0)) fs (q / 32) (q % 32)
+unfolding withFactors factorElse
+cells a [] e r q k = refl
+cells a (f ∷ fs) e r q k =
+    let t = tail-above f fs r in
+    cells (withFactor a (factorRow f)) fs (length-set a (factorCell (f .resource) (f .constraint)) (f .factor) ∙ e) (t .1) q k
+    ∙ ap (λ (d : ℤ). factorElse d fs (q / 32) (q % 32)) (stored a (f .resource) (f .constraint) (f .factor) q e k)
+    ∙ first-stored (getD a q (pos 0)) f fs (q / 32) (q % 32) (t .0)
+
+-- every cell: the row's value, 0 where absent
+pub cells-back : (fs : List GivenFactor) → Rising fs → withFactors (replicate 2048 (pos 0)) (map factorRow fs) ≡ listed (λ q. factorOf fs (q / 32) (q % 32)) 2048
+cells-back fs r = listed-is (pos 0) (withFactors (replicate 2048 (pos 0)) (map factorRow fs)) (λ q. factorOf fs (q / 32) (q % 32)) 2048 (stores-length (replicate 2048 (pos 0)) fs ∙ length-replicate 2048 (pos 0))
+    (λ q k. cells (replicate 2048 (pos 0)) fs (length-replicate 2048 (pos 0)) r q k ∙ ap (λ (d : ℤ). factorElse d fs (q / 32) (q % 32)) (getD-replicate 2048 q (pos 0) (pos 0) k) ∙ else-zero fs (q / 32) (q % 32))

@@ -5,9 +5,8 @@ use mathlib.Core.List.{List, [], _∷_, _++_, map}
 use mathlib.Core.Option.{Option, none, some}
 use mathlib.Core.Bool.{Bool, true, false, cond}
 use native.Mathlib.Omega.{arith}
-use lib.ListN.{length, length-map}
+use lib.ListN.{length}
 use lib.IntN.{ℤ, pos}
-use Rattle.rules_number.specs.Over.{padded}
 use Rattle.rules_interval.specs.declared.Interval.{Interval}
 use Rattle.rules_text.specs.Numbers.{Line, Row, bytes, same, lines, number, magnitude, row}
 use Rattle.rules_text.specs.Tables.{Reader, found, due, headed, cell, single, counted, rows}
@@ -16,12 +15,12 @@ use Rattle.rules_text.proofs.NameLaws.{isLine, same-eq}
 use Rattle.rules_parts.specs.Parts.{readIntervalBy, readInterval, intervalOf, factorRows, parameterBy, parameterOf}
 use Rattle.rules_parts.proofs.IntervalStages.{by-fields, last, lastTwo, lastThree}
 use Rattle.rules_text.specs.Printing.{lineText}
-use Rattle.rules_parts.specs.Texts.{GivenInterval, GivenOutput, GivenFactor, shadowRow, outputRow, factorRow, parameterLine, parameterIs, intervalLines, intervalText, intervalIs, IntervalSmall, IntervalFits}
+use Rattle.rules_parts.specs.Texts.{GivenInterval, GivenOutput, GivenFactor, shadowRow, outputRow, factorRow, parameterLine, parameterIs, intervalLines, intervalText, intervalIs, arrayOf, IntervalSmall, IntervalFits}
 use Rattle.rules_text.specs.Spelled.{Every, no-more, and-all, Small, tableLines, countedRows, together}
 use Rattle.rules_text.proofs.ClosedLines.{lines-together, line-closed, every-map, every-append, counted-closed}
 use Rattle.rules_text.proofs.ReaderLaws.{Reads, Values, then-back, into-back, headed-back, due-back, single-back, counted-back, counted-length, counted-map}
 use Rattle.rules_parts.proofs.FactorBack.{factors-back, cells-back}
-use Rattle.rules_parts.proofs.KeptLaws.{kept-padded, map-same}
+use Rattle.rules_parts.proofs.KeptLaws.{kept-array, map-same}
 
 -- ---- the parameter
 there : (z : ℤ) (b : Bool) → same (bytes "-\n") (lineText (z ∷ [])) ≡ b → single (lineText (z ∷ [])) ≡ some z → cond b (some (pos 0)) (single (lineText (z ∷ []))) ≡ some z
@@ -100,17 +99,18 @@ module _ (i : GivenInterval) (fits : IntervalSmall i) (few : length (i .outputs)
       narrow refl)) two-back
 
 -- ---- which is the interval
-module _ (i : GivenInterval) (fits : IntervalFits i) where
-  column : (g : Row → ℤ) (h : GivenOutput → ℤ) → ((j : ℕ) (o : GivenOutput) → g (pos j ∷ outputRow o) ≡ h o) → kept 64 (pos 0) (map g (os i)) ≡ padded 64 (pos 0) (map h (i .outputs))
-  column g h e = ap (kept 64 (pos 0)) (counted-map outputRow g h e 0 (i .outputs)) ∙ kept-padded 64 (pos 0) (map h (i .outputs)) (omega (arith, length-map (i .outputs) h, fits .resources))
+module _ (i : GivenInterval) where
+  column : (g : Row → ℤ) (h : GivenOutput → ℤ) → ((j : ℕ) (o : GivenOutput) → g (pos j ∷ outputRow o) ≡ h o) → kept 64 (pos 0) (map g (os i)) ≡ arrayOf 64 (pos 0) (map h (i .outputs))
+  column g h e = ap (kept 64 (pos 0)) (counted-map outputRow g h e 0 (i .outputs)) ∙ kept-array 64 (pos 0) (map h (i .outputs))
 
-  pub got-is : got i ≡ intervalIs i
+  -- its counts, and the first lines of each table
+  pub got-is : IntervalSmall i → got i ≡ intervalIs i
   unfolding intervalOf intervalIs
-  got-is = by-fields (counted-length shadowRow 0 (i .shadows))
-      (ap (kept 32 (pos 0)) (counted-map shadowRow (cell 1) (λ z. z) (λ j z. refl) 0 (i .shadows) ∙ map-same (i .shadows)) ∙ kept-padded 32 (pos 0) (i .shadows) (fits .constraints))
+  got-is small = by-fields (counted-length shadowRow 0 (i .shadows))
+      (ap (kept 32 (pos 0)) (counted-map shadowRow (cell 1) (λ z. z) (λ j z. refl) 0 (i .shadows) ∙ map-same (i .shadows)) ∙ kept-array 32 (pos 0) (i .shadows))
       (counted-length outputRow 0 (i .outputs))
       (column (cell 1) (λ o. o .lmp) (λ j o. refl)) (column (cell 2) (λ o. o .dispatch) (λ j o. refl)) (column (cell 3) (λ o. o .available) (λ j o. refl)) (column (cell 4) (λ o. o .floor) (λ j o. refl))
-      (cells-back (length (i .outputs)) (length (i .shadows)) (fits .resources) (fits .constraints) (i .factors) (fits .small .factor) (fits .small .factors))
+      (cells-back (i .factors) (small .factors))
       refl
 
   -- ---- its lines are closed
@@ -132,6 +132,6 @@ module _ (i : GivenInterval) (fits : IntervalFits i) where
       parameter-closed (some z) = line-closed z []
 
   -- the theorem: the text of an interval, whatever follows it, is read as that interval, and what follows is left
-  pub interval-back : (n : ℕ) (t : List ℕ) → readInterval n (lines (intervalText i ++ t)) ≡ found (intervalIs i) (n + length (intervalLines i)) (lines t)
+  pub interval-back : IntervalFits i → (n : ℕ) (t : List ℕ) → readInterval n (lines (intervalText i ++ t)) ≡ found (intervalIs i) (n + length (intervalLines i)) (lines t)
   unfolding intervalText
-  interval-back n t = ap (readInterval n) (lines-together (intervalLines i) t closed) ∙ reads i (fits .small) (omega (arith, fits .resources)) (omega (arith, fits .constraints)) (lines t) n ∙ ap (λ (x : Interval). found x (n + length (intervalLines i)) (lines t)) got-is
+  interval-back fits n t = ap (readInterval n) (lines-together (intervalLines i) t closed) ∙ reads i (fits .small) (fits .resources) (fits .constraints) (lines t) n ∙ ap (λ (x : Interval). found x (n + length (intervalLines i)) (lines t)) (got-is (fits .small))

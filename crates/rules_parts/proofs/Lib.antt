@@ -14,4 +14,5 @@ pub mod OnlyRows
 pub mod OnlyOpening
 pub mod OnlyInterval
 pub mod Meaning
+pub mod ExactTexts
 pub mod TextExamples

@@ -4,7 +4,7 @@ use mathlib.Core.Path.{_≡_, refl, sym, ap, subst, _∙_}
 use mathlib.Core.List.{List, [], _∷_, _++_, map}
 use mathlib.Core.Bool.{true}
 use native.Mathlib.Omega.{arith}
-use lib.ListN.{length, length-map}
+use lib.ListN.{length}
 use lib.IntN.{ℤ, pos}
 use Rattle.rules_number.specs.Over.{padded}
 use Rattle.rules_curve.specs.declared.RawStep.{RawStep}
@@ -20,11 +20,11 @@ use Rattle.rules_curve.specs.Curves.{mostSteps}
 use Rattle.rules_cost.specs.Costs.{mostPoints}
 use Rattle.rules_parts.specs.Parts.{stepOf, pointOf, resourceOf, resourcesOf, openingOf, readOpening}
 use Rattle.rules_text.specs.Printing.{lineText}
-use Rattle.rules_parts.specs.Texts.{GivenOpening, GivenResource, sellerRow, resourceRow, stepRow, pointRow, costRow, stepRows, pointRows, zeroStep, zeroPoint, curveIs, resourceIs, zeroResource, openingLines, openingText, openingIs, ResourceSmall, OpeningSmall, ResourceFits, OpeningFits}
+use Rattle.rules_parts.specs.Texts.{GivenOpening, GivenResource, sellerRow, resourceRow, stepRow, pointRow, costRow, stepRows, pointRows, zeroStep, zeroPoint, curveIs, resourceIs, zeroResource, openingLines, openingText, openingIs, arrayOf, ResourceSmall, OpeningSmall, OpeningFits}
 use Rattle.rules_text.specs.Spelled.{Every, no-more, and-all, Small, tableLines, countedRows, groupedRows, together}
 use Rattle.rules_text.proofs.ClosedLines.{lines-together, line-closed, every-map, every-append, Closed, counted-closed, grouped-closed}
 use Rattle.rules_text.proofs.ReaderLaws.{Reads, Values, then-back, into-back, headed-back, due-back, single-back, withId, counted-back, counted-length, counted-map, grouped-back, each-back}
-use Rattle.rules_parts.proofs.KeptLaws.{kept-padded, map-same}
+use Rattle.rules_parts.proofs.KeptLaws.{kept-array, map-same}
 
 -- ---- what is read
 module _ (o : GivenOpening) where
@@ -171,22 +171,22 @@ resource-with r n m s p = record {
   pack = curveIs (pos 0) [];
 }
 
-resource-is : (i : ℕ) (r : GivenResource) → ResourceFits r → resourceOf (pos i ∷ resourceRow r) (withId i (stepRows r)) (withId i (pointRows r)) (pos i ∷ costRow r) ≡ resourceIs r
+resource-is : (i : ℕ) (r : GivenResource) → resourceOf (pos i ∷ resourceRow r) (withId i (stepRows r)) (withId i (pointRows r)) (pos i ∷ costRow r) ≡ resourceIs r
 unfolding resource-with kept padded
-resource-is i r h =
-    let s : kept mostSteps zeroStep (map stepOf (withId i (stepRows r))) ≡ padded mostSteps zeroStep (r .steps) = ap (kept mostSteps zeroStep) (steps-are i (r .steps)) ∙ kept-padded mostSteps zeroStep (r .steps) (h .steps) in
-    let p : kept mostPoints zeroPoint (map pointOf (withId i (pointRows r))) ≡ padded mostPoints zeroPoint (r .points) = ap (kept mostPoints zeroPoint) (points-are i (r .points)) ∙ kept-padded mostPoints zeroPoint (r .points) (h .points) in
+resource-is i r =
+    let s : kept mostSteps zeroStep (map stepOf (withId i (stepRows r))) ≡ arrayOf mostSteps zeroStep (r .steps) = ap (kept mostSteps zeroStep) (steps-are i (r .steps)) ∙ kept-array mostSteps zeroStep (r .steps) in
+    let p : kept mostPoints zeroPoint (map pointOf (withId i (pointRows r))) ≡ arrayOf mostPoints zeroPoint (r .points) = ap (kept mostPoints zeroPoint) (points-are i (r .points)) ∙ kept-array mostPoints zeroPoint (r .points) in
     ap (λ (n : ℕ). resource-with r n (length (withId i (pointRows r))) (kept mostSteps zeroStep (map stepOf (withId i (stepRows r)))) (kept mostPoints zeroPoint (map pointOf (withId i (pointRows r))))) (rows-many stepRow i (r .steps))
     ∙ ap (λ (m : ℕ). resource-with r (length (r .steps)) m (kept mostSteps zeroStep (map stepOf (withId i (stepRows r)))) (kept mostPoints zeroPoint (map pointOf (withId i (pointRows r))))) (rows-many pointRow i (r .points))
     ∙ ap (λ (l : List RawStep). resource-with r (length (r .steps)) (length (r .points)) l (kept mostPoints zeroPoint (map pointOf (withId i (pointRows r))))) s
-    ∙ ap (resource-with r (length (r .steps)) (length (r .points)) (padded mostSteps zeroStep (r .steps))) p
+    ∙ ap (resource-with r (length (r .steps)) (length (r .points)) (arrayOf mostSteps zeroStep (r .steps))) p
 
-resources-are : (i : ℕ) (l : List GivenResource) → Every ResourceFits l
+resources-are : (i : ℕ) (l : List GivenResource)
     → resourcesOf (countedRows resourceRow i l) (groupedRows stepRows i l) (groupedRows pointRows i l) (countedRows costRow i l) ≡ map resourceIs l
 unfolding resourcesOf countedRows groupedRows
-resources-are i [] h = refl
-resources-are i (r ∷ l) (and-all p h) = ap (λ (x : Resource). x ∷ resourcesOf (countedRows resourceRow (suc i) l) (groupedRows stepRows (suc i) l) (groupedRows pointRows (suc i) l) (countedRows costRow (suc i) l)) (resource-is i r p)
-    ∙ ap (λ (t : List Resource). resourceIs r ∷ t) (resources-are (suc i) l h)
+resources-are i [] = refl
+resources-are i (r ∷ l) = ap (λ (x : Resource). x ∷ resourcesOf (countedRows resourceRow (suc i) l) (groupedRows stepRows (suc i) l) (groupedRows pointRows (suc i) l) (countedRows costRow (suc i) l)) (resource-is i r)
+    ∙ ap (λ (t : List Resource). resourceIs r ∷ t) (resources-are (suc i) l)
 
 blank-is : resourceOf [] [] [] [] ≡ resourceIs zeroResource
 unfolding kept padded
@@ -196,14 +196,15 @@ by-fields : {m : ℤ} {a a' b b' : ℕ} {s s' : List ℤ} {l l' : List Resource}
     → _≡_ {A = Opening} (record { month = m; portfolios = a; sellers = s; resources = b; list = l }) (record { month = m; portfolios = a'; sellers = s'; resources = b'; list = l' })
 by-fields p q r s = cc
 
-module _ (o : GivenOpening) (fits : OpeningFits o) where
+module _ (o : GivenOpening) where
+  -- its counts, and the first lines of each table
   pub got-is : got o ≡ openingIs o
   unfolding openingOf openingIs
   got-is = by-fields (counted-length sellerRow 0 (o .sellers))
-      (ap (kept 16 (pos 0)) (counted-map sellerRow (cell 1) (λ z. z) (λ j z. refl) 0 (o .sellers) ∙ map-same (o .sellers)) ∙ kept-padded 16 (pos 0) (o .sellers) (fits .portfolios))
+      (ap (kept 16 (pos 0)) (counted-map sellerRow (cell 1) (λ z. z) (λ j z. refl) 0 (o .sellers) ∙ map-same (o .sellers)) ∙ kept-array 16 (pos 0) (o .sellers))
       (counted-length resourceRow 0 (o .resources))
-      (ap (λ (b : Resource). kept 64 b (resourcesOf (rs o) (ss o) (hs o) (cs o))) blank-is ∙ ap (kept 64 (resourceIs zeroResource)) (resources-are 0 (o .resources) (fits .each))
-      ∙ kept-padded 64 (resourceIs zeroResource) (map resourceIs (o .resources)) (omega (arith, length-map (o .resources) resourceIs, fits .resources)))
+      (ap (λ (b : Resource). kept 64 b (resourcesOf (rs o) (ss o) (hs o) (cs o))) blank-is ∙ ap (kept 64 (resourceIs zeroResource)) (resources-are 0 (o .resources))
+      ∙ kept-array 64 (resourceIs zeroResource) (map resourceIs (o .resources)))
 
   pub closed : Closed (openingLines o)
   unfolding openingLines
@@ -217,6 +218,6 @@ module _ (o : GivenOpening) (fits : OpeningFits o) where
       (and-all refl (counted-closed costRow 0 (o .resources)))))))
 
   -- the theorem: the text of an opening, whatever follows it, is read as that opening, and what follows is left
-  pub opening-back : (n : ℕ) (t : List ℕ) → readOpening n (lines (openingText o ++ t)) ≡ found (openingIs o) (n + length (openingLines o)) (lines t)
+  pub opening-back : OpeningFits o → (n : ℕ) (t : List ℕ) → readOpening n (lines (openingText o ++ t)) ≡ found (openingIs o) (n + length (openingLines o)) (lines t)
   unfolding openingText
-  opening-back n t = ap (readOpening n) (lines-together (openingLines o) t closed) ∙ reads o (fits .small) (omega (arith, fits .resources)) (omega (arith, fits .portfolios)) (lines t) n ∙ ap (λ (x : Opening). found x (n + length (openingLines o)) (lines t)) got-is
+  opening-back fits n t = ap (readOpening n) (lines-together (openingLines o) t closed) ∙ reads o (fits .small) (omega (arith, fits .resources)) (fits .portfolios) (lines t) n ∙ ap (λ (x : Opening). found x (n + length (openingLines o)) (lines t)) got-is

@@ -1,12 +1,12 @@
 -- Paper 01, Text, the other way round: the text of an opening and of an interval, table by table as the page shows them, and what is to be read from it.
-use Prim.Native.Nat.{ℕ, zero, _/_, _%_, _<_, _≤_}
+use Prim.Native.Nat.{ℕ, zero, _/_, _%_, _^_, _<_, _≤_}
 use mathlib.Core.Path.{_≡_}
 use mathlib.Core.List.{List, [], _∷_, _++_, map}
 use mathlib.Core.Option.{Option, none, some}
 use mathlib.Core.Bool.{cond, _&&_}
 use mathlib.Core.Logic.{_⊎_}
 use lib.Dec.{eqb}
-use lib.ListN.{length}
+use lib.ListN.{length, take}
 use lib.IntN.{ℤ, pos}
 use Rattle.rules_number.specs.Over.{listed, padded}
 use Rattle.rules_curve.specs.declared.RawStep.{RawStep}
@@ -76,7 +76,11 @@ openingLines o =
 unfoldable pub openingText : GivenOpening → List ℕ
 openingText o = together (openingLines o)
 
--- ---- and what the engine is to get
+-- ---- and what the engine is to get: counts are those of the lines, however many they are
+-- an array of n cells: the first n of l, and b in each cell past them
+abbrev pub arrayOf : {A : Type 0} → ℕ → A → List A → List A
+arrayOf n b l = padded n b (take n l)
+
 abbrev pub zeroStep : RawStep
 zeroStep = record { end = pos 0; price = pos 0 }
 
@@ -84,7 +88,7 @@ abbrev pub zeroPoint : Point
 zeroPoint = record { mw = pos 0; heat = pos 0 }
 
 abbrev pub curveIs : ℤ → List RawStep → RawCurve
-curveIs start steps = record { start = start; count = length steps; steps = padded mostSteps zeroStep steps }
+curveIs start steps = record { start = start; count = length steps; steps = arrayOf mostSteps zeroStep steps }
 
 abbrev pub resourceIs : GivenResource → Resource
 resourceIs r = record {
@@ -93,7 +97,7 @@ resourceIs r = record {
   source = source.Costs;
   costs = record {
     count = length (r .points);
-    points = padded mostPoints zeroPoint (r .points);
+    points = arrayOf mostPoints zeroPoint (r .points);
     gas = r .gas;
     rate = r .rate;
     allowance = r .allowance;
@@ -112,9 +116,9 @@ unfoldable pub openingIs : GivenOpening → Opening
 openingIs o = record {
   month = o .month;
   portfolios = length (o .sellers);
-  sellers = padded 16 (pos 0) (o .sellers);
+  sellers = arrayOf 16 (pos 0) (o .sellers);
   resources = length (o .resources);
-  list = padded 64 (resourceIs zeroResource) (map resourceIs (o .resources));
+  list = arrayOf 64 (resourceIs zeroResource) (map resourceIs (o .resources));
 }
 
 -- ---- what an interval says
@@ -173,12 +177,12 @@ factorOf (f ∷ fs) r c = let more = factorOf fs r c in cond (eqb (f .resource) 
 unfoldable pub intervalIs : GivenInterval → Interval
 intervalIs i = record {
   constraints = length (i .shadows);
-  shadow = padded 32 (pos 0) (i .shadows);
+  shadow = arrayOf 32 (pos 0) (i .shadows);
   resources = length (i .outputs);
-  lmp = padded 64 (pos 0) (map (λ o. o .lmp) (i .outputs));
-  dispatch = padded 64 (pos 0) (map (λ o. o .dispatch) (i .outputs));
-  available = padded 64 (pos 0) (map (λ o. o .available) (i .outputs));
-  floor = padded 64 (pos 0) (map (λ o. o .floor) (i .outputs));
+  lmp = arrayOf 64 (pos 0) (map (λ o. o .lmp) (i .outputs));
+  dispatch = arrayOf 64 (pos 0) (map (λ o. o .dispatch) (i .outputs));
+  available = arrayOf 64 (pos 0) (map (λ o. o .available) (i .outputs));
+  floor = arrayOf 64 (pos 0) (map (λ o. o .floor) (i .outputs));
   factors = listed (λ q. factorOf (i .factors) (q / 32) (q % 32)) 2048;
   parameter = parameterIs (i .parameter);
 }
@@ -195,16 +199,11 @@ pub record OpeningSmall (o : GivenOpening) : Type 0 where
   pub sellers : Every Small (o .sellers)
   pub resources : Every ResourceSmall (o .resources)
 
--- its counts are at most the rooms
-pub record ResourceFits (r : GivenResource) : Type 0 where
-  pub steps : length (r .steps) ≤ mostSteps
-  pub points : length (r .points) ≤ mostPoints
-
+-- and so are its ids
 pub record OpeningFits (o : GivenOpening) : Type 0 where
   pub small : OpeningSmall o
-  pub portfolios : length (o .sellers) ≤ 16
-  pub resources : length (o .resources) ≤ 64
-  pub each : Every ResourceFits (o .resources)
+  pub portfolios : length (o .sellers) ≤ 10 ^ 12
+  pub resources : length (o .resources) ≤ 10 ^ 12
 
 -- "Factors strictly rise by (resource, constraint)"
 pub record Before (f g : GivenFactor) : Type 0 where
@@ -229,8 +228,8 @@ pub record IntervalSmall (i : GivenInterval) : Type 0 where
   pub factors : Rising (i .factors)
   pub parameter : (z : ℤ) → i .parameter ≡ some z → Small z
 
--- its counts are at most the limits
+-- and its ids are small
 pub record IntervalFits (i : GivenInterval) : Type 0 where
   pub small : IntervalSmall i
-  pub constraints : length (i .shadows) ≤ 32
-  pub resources : length (i .outputs) ≤ 64
+  pub constraints : length (i .shadows) ≤ 10 ^ 12
+  pub resources : length (i .outputs) ≤ 10 ^ 12

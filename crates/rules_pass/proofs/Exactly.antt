@@ -11,8 +11,8 @@ use Rattle.rules_number.proofs.ExactLaws.{and-exactly}
 use Rattle.rules_number.proofs.OverLaws.{both}
 use Rattle.rules_curve.specs.Refusals.{unless}
 use Rattle.rules_curve.proofs.CheckLaws.{then-both, unless-holds}
-use Rattle.rules_curve.specs.Demands.{_asks_, First, Met}
-use Rattle.rules_curve.proofs.FirstLaws.{exactly, accepted-exactly, first-then, first-more}
+use Rattle.rules_curve.specs.Demands.{_asks_, First}
+use Rattle.rules_curve.proofs.FirstLaws.{exactly, first-then, first-more}
 use Rattle.rules_interval.specs.Conditions.{intervalDemands}
 use Rattle.rules_interval.specs.Intervals.{intervalRefusal}
 use Rattle.rules_interval.specs.declared.Interval.{Interval}
@@ -37,10 +37,6 @@ module _ (m : Market) (accepted : ℕ) (k : Quarter) (v : Interval) where
     -- a pass is refused with n exactly when n is the number of the first demand that is not met
     pub turn-exactly : (n : ℕ) → (turnRefusal m accepted k v ≡ n) ↔ First n (passDemands accepted (k .passes) (m .resources) v)
     turn-exactly n = exactly (passDemands accepted (k .passes) (m .resources) v) (turnRefusal m accepted k v) turn-first n
-
-    -- and accepted exactly when all are met
-    pub turn-accepted : (turnRefusal m accepted k v ≡ 0) ↔ Met (passDemands accepted (k .passes) (m .resources) v)
-    turn-accepted = accepted-exactly (passDemands accepted (k .passes) (m .resources) v) (turnRefusal m accepted k v) turn-first
 
   -- "12 never applies to a pass", whatever the hour
   pub turn-never-twelve : turnRefusal m accepted k v ≡ 12 → ⊥

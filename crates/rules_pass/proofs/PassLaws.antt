@@ -1,22 +1,15 @@
 -- What a call does to the hour in real time: an interval begins a quarter hour, a pass leaves the hour alone. Assumes nothing.
 use mathlib.Core.List.{List, [], _∷_, _++_}
 use mathlib.Core.Path.{_≡_, refl, ap}
-use Prim.Native.Nat.{ℕ, zero, suc, _<_}
-use native.Mathlib.Omega.{arith}
+use Prim.Native.Nat.{ℕ, zero, suc}
 use Rattle.rules_interval.specs.declared.Interval.{Interval}
 use Rattle.rules_hour.specs.Hours.{hourRefusal, hourAfterAll}
 use Rattle.rules_hour.specs.Demand3.{countedBy}
 use Rattle.rules_hour.proofs.KeptLaws.{refused-call}
 use Rattle.rules_pass.specs.Passes.{RealTimeHour, freshQuarter, nextQuarter, quarterUnless, quarterAfter, begunBy, intervalAfter, passRefusal, passAfter}
 use Rattle.rules_pass.specs.Calls.{Request, interval, pass, after, afterAll, intervalsIn, restartedBy}
-use Rattle.rules_pass.specs.declared.Quarter.{Quarter}
 
 -- ---- one call
--- a refused interval leaves the quarter hour that runs
-pub left-running : (n : ℕ) (k : Quarter) → 0 < n → begunBy n k ≡ k
-left-running zero k l = absurd (omega arith)
-left-running (suc n) k l = refl
-
 module _ (h : RealTimeHour) (v : Interval) where
   -- a refused interval changes nothing
   pub refused-interval : (n : ℕ) → hourRefusal (h .hour) v ≡ suc n → intervalAfter h v ≡ h

@@ -8,3 +8,4 @@ pub mod PathVerdict
 pub mod SamePath
 pub mod Examples
 pub mod JudgedOn
+pub mod FindingNumbers

@@ -11,6 +11,7 @@ pub mod StateCalls
 pub mod NumberCalls
 pub mod CauseExactly
 pub mod ReadNumbers
+pub mod ExactNumbers
 pub mod StateCells
 pub mod Worked
 pub mod WrittenSlices

@@ -1,10 +1,12 @@
 -- The cells of an opened hour, put into cells that are 0 as far as it has resources, stand for that hour: rows past its resources are blank. Assumes nothing.
+use mathlib.Core.Bool.{Bool, true, false}
 use mathlib.Core.List.{List, [], _∷_, _++_, flatMap, append-assoc}
 use mathlib.Core.Logic.{⊎-elim}
 use mathlib.Core.Path.{_≡_, refl, sym, ap, _∙_}
 use Prim.Native.Nat.{ℕ, zero, suc, _+_, _-_, _*_, _≤_, _<_}
 use native.Mathlib.Omega.{arith}
-use lib.IntN.{ℤ, pos}
+use borrow.Author.Tests.{le-leb, lt-leb}
+use lib.IntN.{ℤ, pos, negsuc}
 use lib.ListN.{length, replicate, length-append, length-replicate, List·getD-append, List·getD-eq-default}
 use lib.Seq.{sets, length-sets, getD-append-add, ext-getD}
 use Rattle.rules_number.specs.Over.{listed, padded}
@@ -12,18 +14,18 @@ use Rattle.rules_number.proofs.OverLaws.{le-or-lt, listed-length}
 use Rattle.rules_opening.specs.Openings.{resourceAt, openingRefusal, marketOf}
 use Rattle.rules_opening.specs.Resources.{blankRow, rowOf}
 use Rattle.rules_opening.specs.declared.Opening.{Opening}
-use Rattle.rules_opening.specs.declared.Row.{Row}
 use Rattle.rules_curve.specs.Curves.{blankCurve}
 use Rattle.rules_hour.specs.Hours.{freshStanding}
 use Rattle.rules_hour.specs.Opened.{freshHour, openedHour}
 use Rattle.rules_hour.proofs.AcceptedOpening.{few, opened-hour}
 use Rattle.rules_pass.specs.Passes.{freshQuarter, openedRealTime}
 use Rattle.rules_text.proofs.ListLaws.{sets-read}
-use Rattle.rules_library.specs.Slices.{cellAt}
-use Rattle.rules_state.specs.Layout.{rowsFrom, rowRoom, stateRoom}
+use Rattle.rules_library.specs.Slices.{cellAt, answerOf, ifWritten}
+use Rattle.rules_state.specs.Layout.{rowsFrom, rowRoom, stateRoom, hourRoom}
+use Rattle.rules_state.specs.Calls.{holds}
 use Rattle.rules_state.specs.States.{hourIn, standingCells, quarterCells, marketCells, curveCells, rowCells, stateCells}
 use Rattle.rules_state.specs.Takes.{openedCells}
-use Rattle.rules_state.specs.OpenedInto.{openedInto}
+use Rattle.rules_state.specs.OpenedInto.{intoAnswer, openedInto}
 use Rattle.rules_state.proofs.StandLaws.{Stands, each-blank, flat-length}
 use Rattle.rules_state.proofs.HourBack.{state-room, hour-back}
 use Rattle.rules_state.proofs.OpenedFits.{opened-fits}
@@ -74,12 +76,37 @@ unfolding flatMap
 flat-append f [] b = refl
 flat-append f (x ∷ a) b = ap (λ (l : List _). f x ++ l) (flat-append f a b) ∙ sym (append-assoc (f x) (flatMap f a) (flatMap f b))
 
-module _ (o : Opening) (accepted : openingRefusal o ≡ 0) where
-  -- opening writes them
-  pub opened-into : (l : List ℤ) → openedInto o l ≡ sets l 0 (openedCells o)
-  unfolding openedInto
-  opened-into l = rw accepted
+-- ---- what opening answers and leaves
+module _ (o : Opening) (l : List ℤ) where
+  abbrev room : Bool
+  room = holds (hourRoom (o .resources)) l
 
+  kept : (b : Bool) (n : ℕ) → (b ≡ true → 0 < n) → ifWritten (answerOf b n) (sets l 0 (openedCells o)) l ≡ l
+  kept true zero h = absurd (omega (arith, h refl))
+  kept true (suc n) h = refl
+  kept false n h = refl
+
+  -- too few cells are said to be so, and nothing is written
+  pub short-into : length l < hourRoom (o .resources) → (intoAnswer l o ≡ negsuc 0) × (openedInto o l ≡ l)
+  unfolding intoAnswer openedInto
+  short-into h = rw (lt-leb (hourRoom (o .resources)) (length l) h) (refl, refl)
+
+  -- a refused opening writes nothing
+  pub none-into : 0 < openingRefusal o → openedInto o l ≡ l
+  unfolding intoAnswer openedInto
+  none-into h = kept room (openingRefusal o) (λ e. h)
+
+  module _ (long : hourRoom (o .resources) ≤ length l) where
+    pub into-answer : intoAnswer l o ≡ pos (openingRefusal o)
+    unfolding intoAnswer
+    into-answer = rw (le-leb (hourRoom (o .resources)) (length l) long)
+
+    -- an accepted one writes its cells
+    pub opened-into : openingRefusal o ≡ 0 → openedInto o l ≡ sets l 0 (openedCells o)
+    unfolding openedInto
+    opened-into accepted = rw (into-answer, accepted)
+
+module _ (o : Opening) (accepted : openingRefusal o ≡ 0) where
   -- the blank rows past its resources
   abbrev spare : ℕ
   spare = 64 - length (listed (λ r. rowOf (resourceAt o r)) (o .resources))
@@ -129,7 +156,3 @@ module _ (o : Opening) (accepted : openingRefusal o ≡ 0) where
     pub hour-opened : hourIn opened .hour ≡ openedHour o
     unfolding openedRealTime
     hour-opened = ap (λ h. h .hour) opened-back
-
-    pub quarter-opened : hourIn opened .quarter ≡ freshQuarter
-    unfolding openedRealTime
-    quarter-opened = ap (λ h. h .quarter) opened-back

@@ -30,7 +30,7 @@ use Rattle.rules_library.specs.Slices.{cellAt}
 use Rattle.rules_state.specs.Layout.{mostResources, countedRoom, quarterFrom, marketFrom}
 use Rattle.rules_state.specs.States.{floorOf, priceOf, cellOf, floorsIn, standingIn, quarterIn, marketIn, rowsIn}
 use Rattle.rules_state.specs.Takes.{ifAccepted, floorFrom, cutCell, cutsBy, standingWritten, quarterWritten}
-use Rattle.rules_state.proofs.SameCells.{floors-full, floors-same, standing-same, quarter-same, market-same, rows-same}
+use Rattle.rules_state.proofs.SameCells.{floors-full, floors-same, standing-same, market-same, rows-same}
 
 -- ---- what is written where a number is 0, and where it isn't
 pub written-zero : {A : Type 0} (n : ℕ) (a b : A) → n ≡ 0 → ifAccepted n a b ≡ a
@@ -216,9 +216,6 @@ module _ (l : List ℤ) (v : Interval) (sound : callRefusal (marketIn l) (standi
   pub standing-after : countedRoom ≤ length l → standingIn (standingWritten l v) ≡ standingAfter (marketIn l) (standingIn l) v
   unfolding standingAfter
   standing-after h = standing-next h ∙ sym (rw sound)
-
-  pub standing-quarter : quarterIn (standingWritten l v) ≡ quarterIn l
-  standing-quarter = quarter-same (standingWritten l v) l (λ i h m. standing-past i h)
 
   pub standing-market : marketIn (standingWritten l v) ≡ marketIn l
   standing-market = market-same (standingWritten l v) l (λ i h. standing-past i (omega arith))

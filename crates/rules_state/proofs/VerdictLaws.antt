@@ -70,11 +70,6 @@ verdict-back l c v f t =
     let h : wholesIn l (i + 4) mostPortfolios ≡ v .withheld = wholes-back l (i + 4) mostPortfolios (v .withheld) (f .room) (f .withheld) four in
     rw (a, b, e, g, h)
 
--- whatever the cells held before
-pub verdict-stored : (w : List ℤ) (c : ℕ) (v : Verdict) → VerdictFits v → verdictWidth * c + verdictWidth ≤ length w → verdictIn (sets w (verdictWidth * c) (verdictCells v)) c ≡ v
-verdict-stored w c v f h =
-    verdict-back (sets w (verdictWidth * c) (verdictCells v)) c v f (stands-stored w (verdictWidth * c) (verdictCells v) (omega (arith, verdict-width v (f .room))))
-
 -- ---- the verdicts of an accepted interval
 each-small : (l : List ℕ) → ((p : ℕ) → at l p ≤ 9223372036854775807) → Each Small l
 each-small [] h = tt

@@ -3,14 +3,16 @@ use mathlib.Core.Bool.{true, false, _&&_}
 use mathlib.Core.List.{List, _∷_, map, flatMap}
 use mathlib.Core.Logic.{_⊎_, inl, inr, ⊎-elim}
 use mathlib.Core.Path.{_≡_, refl, sym, ap, subst, _∙_}
-use Prim.Native.Nat.{ℕ, _+_, _*_, _≤_, _<_}
+use Prim.Native.Nat.{ℕ, _+_, _*_, _%_, _≤_, _<_}
 use native.Mathlib.Nat.{le-trans, le-of-eq}
 use native.Mathlib.Omega.{arith}
-use borrow.Author.Tests.{leb-true, le-leb, lt-leb}
+use borrow.Author.Tests.{leb-true, le-leb, lt-leb, lt-ltb, le-ltb}
+use lib.Count.{ones}
 use lib.Dec.{ltb}
 use lib.IntN.{ℤ, pos, negsuc}
 use lib.ListN.{length, getD, length-map, length-take, List·getD-eq-default}
 use lib.Seq.{sets, length-sets}
+use Rattle.rules_number.specs.Order.{natOf}
 use Rattle.rules_number.specs.Over.{listed, padded}
 use Rattle.rules_number.proofs.OverLaws.{both, tested, le-or-lt, listed-at, listed-length, padded-length}
 use Rattle.rules_number.proofs.CellLaws.{cell-listed}
@@ -46,8 +48,8 @@ use Rattle.rules_library.specs.Slices.{cellAt, edgesOf, pricesOf, edgeCount, pr
 use Rattle.rules_state.specs.Layout.{mostResources, mostConstraints, stateRoom, verdictWidth, verdictRoom, causeRoom}
 use Rattle.rules_state.specs.States.{curveInCells, rowIn, rowsIn, hourIn, marketIn, standingIn, quarterIn, cellOf}
 use Rattle.rules_state.specs.Fits.{Each}
-use Rattle.rules_state.specs.Verdicts.{verdictCells, verdictsCells, judgedCells}
-use Rattle.rules_state.specs.Calls.{holds, intervalAnswer, passAnswer, verdictsAfterInterval, verdictsAfterPass, whyAnswer, causesAfter}
+use Rattle.rules_state.specs.Verdicts.{verdictCells, verdictsCells, judgedCells, verdictIn}
+use Rattle.rules_state.specs.Calls.{holds, intervalAnswer, passAnswer, verdictsAfterInterval, verdictsAfterPass, whyAnswer, causesAfter, sellersAnswer}
 use Rattle.rules_state.specs.Causes.{causesCells}
 use Rattle.rules_state.specs.Curves.{mitigatedEdges, mitigatedPrices, mitigatedEdgeCount, mitigatedRoom, curveAnswer, curveEdges, curvePrices, fiveMinuteEdges, fiveMinutePrices, hourBidAnswer, hourBidEdges, hourBidPrices, defaultIn, defaultOfAnswer, defaultOfEdges, defaultOfPrices}
 use Rattle.rules_state.proofs.StandLaws.{Stands, stands-first, stands-rest, map-at, stored-at, stored-past, stands-stored, stands-each, each-listed, each-padded, flat-length}
@@ -68,10 +70,15 @@ written {A} d n values before e h = record {
   long = length-sets before 0 values;
 }
 
--- ---- the curves of a state have 20 steps, used and blank
-room-of : (floor : FloorPrice) (x : Row) → length (stepsOf (x .default)) ≤ mostSteps → length (mitigated floor (x .bid) (x .default) .steps) ≡ mostMitigatedSteps
+-- ---- the curves of a state have 20 steps, used and blank, and use no more, whatever stands in it
+abbrev Roomy : Mitigated → Type 0
+Roomy c = (length (c .steps) ≡ mostMitigatedSteps) × (c .count ≤ mostMitigatedSteps)
+
+room-of : (floor : FloorPrice) (x : Row) → length (stepsOf (x .default)) ≤ mostSteps → Roomy (mitigated floor (x .bid) (x .default))
 unfolding mitigated
-room-of floor x few = padded-length mostMitigatedSteps blankStep (mitigatedSteps floor (x .bid) (x .default)) (mitigated-length floor (x .bid) (x .default) few)
+room-of floor x few =
+    let n = mitigated-length floor (x .bid) (x .default) few in
+    (padded-length mostMitigatedSteps blankStep (mitigatedSteps floor (x .bid) (x .default)) n, n)
 
 module _ (s : List ℤ) (r : ℕ) where
   default-few : length (stepsOf (rowAt (hourIn s .hour) r .default)) ≤ mostSteps
@@ -84,15 +91,15 @@ module _ (s : List ℤ) (r : ℕ) where
       few-steps : (c : Curve) → length (c .steps) ≡ mostSteps → length (stepsOf c) ≤ mostSteps
       few-steps c e = omega (arith, length-take (c .count) (c .steps))
 
-  pub curve-steps : length (curveIn (hourIn s .hour) r .steps) ≡ mostMitigatedSteps
+  pub curve-steps : Roomy (curveIn (hourIn s .hour) r)
   unfolding curveIn
   curve-steps = room-of _ (rowAt (hourIn s .hour) r) default-few
 
-  pub five-minute-steps : length (fiveMinuteIn (hourIn s) r .steps) ≡ mostMitigatedSteps
+  pub five-minute-steps : Roomy (fiveMinuteIn (hourIn s) r)
   unfolding fiveMinuteIn
   five-minute-steps = room-of _ (rowAt (hourIn s .hour) r) default-few
 
-  pub hour-bid-steps : hourBidRefusal (hourIn s) ≡ 0 → length (hourBidOf (hourIn s) r .steps) ≡ mostMitigatedSteps
+  pub hour-bid-steps : hourBidRefusal (hourIn s) ≡ 0 → Roomy (hourBidOf (hourIn s) r)
   unfolding hourBidIn
   hour-bid-steps e = rw (given-bid (hourIn s) r e) (room-of _ (rowAt (hourIn s .hour) r) default-few)
 
@@ -100,6 +107,7 @@ module _ (s : List ℤ) (r : ℕ) where
 pub record CurveWritten (c : Mitigated) (edges : List ℕ) (prices : List ℤ) (edges' : List ℕ) (prices' : List ℤ) : Type 0 where
   pub ends : Written 0 22 (c .count ∷ c .start ∷ map (λ s. s .end) (c .steps)) edges edges'
   pub priced : Written (pos 0) 20 (map (λ s. s .price) (c .steps)) prices prices'
+  pub few : c .count ≤ 20
 
 module _ (s : List ℤ) (edges : List ℕ) (prices : List ℤ) where
   room-two : mitigatedRoom s edges prices ≡ true → (22 ≤ length edges) × (20 ≤ length prices)
@@ -108,11 +116,12 @@ module _ (s : List ℤ) (edges : List ℕ) (prices : List ℤ) where
       let c = both (holds mitigatedEdgeCount edges) (holds mostMitigatedSteps prices) b in
       (leb-true mitigatedEdgeCount (length edges) (c .0), leb-true mostMitigatedSteps (length prices) (c .1))
 
-  into-both : (c : Mitigated) → length (c .steps) ≡ mostMitigatedSteps → mitigatedRoom s edges prices ≡ true
+  into-both : (c : Mitigated) → Roomy c → mitigatedRoom s edges prices ≡ true
       → CurveWritten c edges prices (sets edges 0 (mitigatedEdges c)) (sets prices 0 (mitigatedPrices c))
   into-both c n e = let z = room-two e in record {
-    ends = written 0 22 (mitigatedEdges c) edges (omega (arith, length-map (c .steps) (λ s. s .end))) (z .0);
-    priced = written (pos 0) 20 (mitigatedPrices c) prices (length-map (c .steps) (λ s. s .price) ∙ n) (z .1);
+    ends = written 0 22 (mitigatedEdges c) edges (omega (arith, n .0, length-map (c .steps) (λ s. s .end))) (z .0);
+    priced = written (pos 0) 20 (mitigatedPrices c) prices (length-map (c .steps) (λ s. s .price) ∙ n .0) (z .1);
+    few = n .1;
   }
 
   -- the state, and slices for n edges and m prices, have room, or one of them hasn't
@@ -195,6 +204,10 @@ module _ (s : List ℤ) (edges : List ℕ) (prices : List ℤ) where
       (λ h. ap (λ (x : Row). length (x .default .steps)) (List·getD-eq-default (rowsIn s) blankRow (le-trans (le-of-eq (listed-length (rowIn s) mostResources)) h)))
       (λ h. ap (λ (x : Row). length (x .default .steps)) (listed-at (rowIn s) blankRow mostResources r h) ∙ listed-length _ mostSteps)
       (le-or-lt mostResources r)
+
+  -- no more steps than there is room for are handed out, whatever stands in the state
+  pub default-within : (r : ℕ) → length (stepsOf (defaultIn s r)) ≤ mostSteps
+  default-within r = let c = defaultIn s r in omega (arith, length-take (c .count) (c .steps), default-room r)
 
   pub default-written : (r : ℕ) → defaultOfAnswer s edges prices ≡ pos 0
       → Written 0 13 (edgesOf (defaultIn s r)) edges (defaultOfEdges s r edges prices) × Written (pos 0) 11 (pricesOf (defaultIn s r)) prices (defaultOfPrices s r edges prices)
@@ -318,21 +331,45 @@ verdict-in l i x n few names t =
     }
 
 -- an accepted interval, and an accepted pass, write the verdicts on their constraints
+-- as many sellers as the verdict has bits that are ones; -1 where there are too few numbers, and nobody past the constraints
+pub sellers-are : (l : List ℤ) (c n : ℕ) → c < 32 → 640 ≤ length l → n ≡ natOf (cellAt l (20 * c + 3)) → sellersAnswer l c ≡ pos (ones (n % 4294967296))
+unfolding sellersAnswer verdictIn
+sellers-are l c n h room e = rw (le-leb verdictRoom (length l) room, lt-ltb c mostConstraints h, e)
+
+sellers-counted : (l : List ℤ) (c : ℕ) (x : Verdict) → c < 32 → 640 ≤ length l → x .named ≤ 98304 → cellAt l (20 * c + 3) ≡ pos (x .named) → sellersAnswer l c ≡ pos (ones (x .named))
+sellers-counted l c x h room few e =
+    let own : x .named % 4294967296 ≡ x .named = omega arith in
+    sellers-are l c (x .named) h room (sym (ap natOf e)) ∙ ap (λ (k : ℕ). pos (ones k)) own
+
+pub sellers-short : (l : List ℤ) (c : ℕ) → length l < 640 → sellersAnswer l c ≡ negsuc 0
+unfolding sellersAnswer
+sellers-short l c h = rw (lt-leb verdictRoom (length l) h)
+
+pub sellers-past : (l : List ℤ) (c : ℕ) → 640 ≤ length l → 32 ≤ c → sellersAnswer l c ≡ pos 0
+unfolding sellersAnswer
+sellers-past l c room h = rw (le-leb verdictRoom (length l) room, le-ltb c mostConstraints h)
+
 module _ (s verdicts : List ℤ) (v : Interval) where
   pub record VerdictsTold (after : List ℤ) : Type 0 where
     pub told : (c : ℕ) → c < v .constraints → VerdictCells after (20 * c) (verdictOf (pathIn (marketIn s) v c))
     pub all : Written (pos 0) 640 (verdictsCells (verdictsOf (marketIn s) v)) verdicts after
+    pub sellers : (c : ℕ) → c < v .constraints → sellersAnswer after c ≡ pos (ones (verdictOf (pathIn (marketIn s) v c) .named))
 
   tell : intervalRefusal (marketIn s .resources) v ≡ 0 → verdictRoom ≤ length verdicts → VerdictsTold (sets verdicts 0 (verdictsCells (verdictsOf (marketIn s) v)))
   tell sound h =
       let w = verdicts-written (marketIn s) v (marketIn s .resources) sound verdicts h in
+      let after = sets verdicts 0 (verdictsCells (verdictsOf (marketIn s) v)) in
+      let told : (c : ℕ) → c < v .constraints → VerdictCells after (20 * c) (verdictOf (pathIn (marketIn s) v c)) = λ c l.
+      verdict-in after (20 * c) (verdictOf (pathIn (marketIn s) v c)) (withheld-room (pathIn (marketIn s) v c))
+      (verdict-few (marketIn s) v sound c l) (named-few (marketIn s) v c)
+      (verdict-at (marketIn s) v (marketIn s .resources) sound after
+      (stands-stored verdicts 0 (verdictsCells (verdictsOf (marketIn s) v)) (omega (arith, verdicts-room (marketIn s) v (marketIn s .resources) sound))) c l) in
       record {
-        told = λ c l.
-            verdict-in (sets verdicts 0 (verdictsCells (verdictsOf (marketIn s) v))) (20 * c) (verdictOf (pathIn (marketIn s) v c)) (withheld-room (pathIn (marketIn s) v c))
-            (verdict-few (marketIn s) v sound c l) (named-few (marketIn s) v c)
-            (verdict-at (marketIn s) v (marketIn s .resources) sound (sets verdicts 0 (verdictsCells (verdictsOf (marketIn s) v)))
-            (stands-stored verdicts 0 (verdictsCells (verdictsOf (marketIn s) v)) (omega (arith, verdicts-room (marketIn s) v (marketIn s .resources) sound))) c l);
+        told = told;
         all = w;
+        sellers = λ c l.
+            sellers-counted after c (verdictOf (pathIn (marketIn s) v c)) (omega (arith, l, in-limits (marketIn s .resources) v sound .constraints))
+            (omega (arith, h, w .long)) (named-few (marketIn s) v c) (told c l .named);
       }
 
   room-second : (holds stateRoom s && holds verdictRoom verdicts) ≡ true → verdictRoom ≤ length verdicts

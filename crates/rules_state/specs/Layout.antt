@@ -1,5 +1,5 @@
 -- Where the numbers of an hour stand in the slice that the caller keeps. Cells count from 0.
-use Prim.Native.Nat.{ℕ, _+_, _*_}
+use Prim.Native.Nat.{ℕ, _+_, _*_, min}
 use Rattle.rules_curve.specs.Curves.{mostSteps}
 
 abbrev pub mostResources : ℕ
@@ -35,6 +35,10 @@ rowRoom = 2 * curveRoom
 
 abbrev pub stateRoom : ℕ
 stateRoom = rowsFrom + mostResources * rowRoom
+
+-- how many of them an hour of n resources needs; one of more than it may have, as many as one of 64
+abbrev pub hourRoom : ℕ → ℕ
+hourRoom n = rowsFrom + rowRoom * min n mostResources
 
 -- ---- what calls read and write
 -- one resource of an opening

@@ -16,3 +16,5 @@ pub mod StageLaws
 pub mod ClosedLines
 pub mod OnlySpelling
 pub mod ReaderLaws
+pub mod TableLines
+pub mod Letters

@@ -8,7 +8,6 @@ use native.Mathlib.Omega.{arith}
 use native.Mathlib.Nat.{pow-suc, not-suc-le-zero}
 use native.Mathlib.Numerals.{add-one}
 use borrow.Author.Tests.{lt-ltb, le-ltb, ltb-true}
-use lib.Dec.{leb}
 use lib.ListN.{length, drop, take, getD, set, length-append, length-drop, length-take, length-set, drop-of-length-le}
 use lib.Seq.{sets, length-sets, take-all}
 use lib.IntN.{ℤ, pos, negsuc, natAbs}
@@ -57,18 +56,11 @@ places (suc f) (suc k) n r h l =
     let at-least = l (omega arith) in
     more-length f n (omega arith) ∙ ap suc (places f k (n / 10) (omega arith) (omega arith) (λ z. omega arith))
 
--- the same with the count that is answered, where the bounds are numerals
-pub counted : (k n : ℕ) → suc k ≤ 19 → n < 10 ^ suc k → (0 < k → 10 ^ k ≤ n) → suc k ≡ length (digits 19 n)
-counted k n r h l = sym (places 19 k n r h l)
-
 -- the loop of digit_count, which starts at seven digits
 pub record Counting (n count bound : ℕ) : Type 0 where
   pub some : 1 ≤ count
   pub is : bound ≡ 10 ^ count
   pub passed : 1 < count → 10 ^ (count - 1) ≤ n
-
-pub counting-start : (n : ℕ) → 1000000 ≤ n → Counting n 7 10000000
-counting-start n h = record { some = omega arith; is = refl; passed = λ z. h }
 
 module _ (n count bound : ℕ) (small : n < 10 ^ 19) (c : Counting n count bound) where
   below : bound ≤ n → count < 19

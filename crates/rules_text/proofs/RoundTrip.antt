@@ -19,7 +19,6 @@ use Rattle.rules_text.specs.declared.Number.{Number}
 use Rattle.rules_text.specs.declared.Number.the-variants.{Is, Not}
 use Rattle.rules_text.specs.Numbers.{Row, digitCount, value, formed, magnitude, plain, negated, number, closing, put, field, row}
 use Rattle.rules_text.specs.Printing.{digits, decimal, lineText}
-use Rattle.rules_text.specs.Offsets.{shifted, numberAt}
 use Rattle.rules_text.proofs.ListLaws.{or-true}
 use Rattle.rules_text.proofs.NumberLaws.{digit-yes, value-none, mag-is, number-minus, number-plain}
 use Rattle.rules_text.proofs.PrintLaws.{digits-one, digits-more}
@@ -130,11 +129,6 @@ number-back (pos n) r small stop = number-plain (digits 19 n ++ r) (first n r sm
 number-back (negsuc m) r small stop =
     number-minus (45 ∷ digits 19 (suc m) ++ r) refl ∙ ap negated (magnitude-back (suc m) r small stop)
     ∙ ap (λ (b : Bool). cond b Not (Is (negsuc m) (suc (length (digits 19 (suc m)))))) (ne-eqb (suc m) 0 (λ q. omega arith))
-
--- the same at an offset of a text that has it there
-pub number-at-back : (s : List ℕ) (p : ℕ) (z : ℤ) (r : List ℕ) → drop p s ≡ decimal z ++ r → natAbs z < 10 ^ 12 → digitCount r ≡ 0 → numberAt s p ≡ Is z (p + length (decimal z))
-unfolding numberAt
-number-at-back s p z r e small stop = ap (λ (l : List ℕ). shifted p (number l)) e ∙ ap (shifted p) (number-back z r small stop)
 
 closing-none : (k : ℕ) (t : List ℕ) → digitCount (closing k ∷ t) ≡ 0
 closing-none zero t = refl

@@ -1,5 +1,5 @@
 -- Laws of tables: a line that is due, and a run of lines that suit, read by a loop. One law for each way through its body, for every table. Assumes nothing.
-use Prim.Native.Nat.{ℕ, suc, _+_, _-_, _≤_, _<_}
+use Prim.Native.Nat.{ℕ, suc, _+_, _-_, _<_}
 use native.Mathlib.Omega.{arith}
 use native.Mathlib.Numerals.{add-one}
 use mathlib.Core.Path.{_≡_, refl, sym, ap, _∙_}
@@ -7,7 +7,7 @@ use mathlib.Core.List.{List, [], _∷_, map}
 use mathlib.Core.Option.{Option, none, some}
 use mathlib.Core.Bool.{Bool}
 use lib.ListN.{length, drop, set, length-drop, length-replicate, replicate}
-use lib.Seq.{sets, drop-drop, length-sets, set-out}
+use lib.Seq.{sets, drop-drop, length-sets}
 use Rattle.rules_text.specs.Numbers.{Line, Row, lines, number, magnitude, row}
 use Rattle.rules_text.specs.Tables.{faulty, found, due, ifSuits, run}
 use Rattle.rules_text.specs.Offsets.{kept}
@@ -61,9 +61,6 @@ module _ {X : Type 0} (k : ℕ) (suits : ℕ → Row → Bool) (step : ℕ → R
     pub rest : lines t ≡ drop n L
 
   module _ (n i : ℕ) (a : List X) (t : List ℕ) (N : ℕ) (S : List X) (L : List Line) (h : Loop n i a t N S L) where
-    pub room : length a ≡ length S
-    room = sym (length-sets a n (map f (From i t))) ∙ ap length (h .stores)
-
     -- the line does not suit, or is none of values
     pub ends : ifSuits (suits i) (row (suc k) (line t)) ≡ none → Ended n a t N S L
     ends e =
@@ -97,10 +94,6 @@ module _ {X : Type 0} (k : ℕ) (suits : ℕ → Row → Bool) (step : ℕ → R
             fewer = omega arith;
             below = omega arith;
           }
-
-      -- a row past the room is counted and not kept
-      pub turns-past : length a ≤ n → (j : ℕ) → step i x ≡ j → (u : List ℕ) → u ≡ after t → Turned j a u
-      turns-past past j ej u eu = turns j ej a (sym (set-out a n (f x) past)) u eu
 
 pub kept-length : {A : Type 0} (n : ℕ) (d : A) (xs : List A) → length (kept n d xs) ≡ n
 unfolding kept

@@ -7,7 +7,7 @@ use mathlib.Core.Option.{Option, none, some}
 use mathlib.Core.Bool.{Bool, true, false, cond}
 use native.Mathlib.Omega.{arith}
 use lib.ListN.{length, drop, take, length-append}
-use lib.Seq.{drop-drop, take-length}
+use lib.Seq.{drop-drop}
 use Rattle.rules_text.specs.Numbers.{Line, Row, bytes, same, lines, row}
 use Rattle.rules_text.specs.Tables.{Reader, Reading, faulty, found, next, _▷_, taken, due, headed, hasId, ifSuits, rows, each, grouped}
 use Rattle.rules_text.specs.Spelled.{together}
@@ -15,7 +15,6 @@ use Rattle.rules_text.specs.Offsets.{namesAt, bytesOf}
 use Rattle.rules_text.specs.declared.Found.the-variants.{At, Nothing}
 use Rattle.rules_text.proofs.LineLaws.{line, after, lines-cons}
 use Rattle.rules_text.proofs.NameLaws.{isLine, same-eq, past-names}
-use Rattle.rules_text.proofs.ClosedLines.{together-lines}
 
 -- ---- the bytes of lines
 pub bytes-none : (ls : List Line) → bytesOf 0 ls ≡ 0
@@ -59,11 +58,6 @@ bytes-rest (suc k) (b ∷ u) =
 -- and so at any offset of a text
 pub bytes-past : (s : List ℕ) (at k at' : ℕ) → at' ≡ at + bytesOf k (lines (drop at s)) → lines (drop at' s) ≡ drop k (lines (drop at s))
 bytes-past s at k at' e = ap (λ (i : ℕ). lines (drop i s)) e ∙ ap lines (sym (drop-drop (bytesOf k (lines (drop at s))) at s)) ∙ bytes-rest k (drop at s)
-
--- all lines of a text have all its bytes
-pub bytes-all : (t : List ℕ) → bytesOf (length (lines t)) (lines t) ≡ length t
-unfolding bytesOf
-bytes-all t = ap (λ (ls : List Line). length (together ls)) (take-length (lines t)) ∙ ap length (together-lines t)
 
 -- six bytes and two, the bytes 10 included
 pub bytes-two : bytesOf 2 (lines (bytes "month\n7\nportfolio seller\n")) ≡ 8

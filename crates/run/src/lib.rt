@@ -262,7 +262,7 @@ fn put_intervals(
     let mut i: u64 = 1;
     let mut p: usize = 0;
     while at < text.len() {
-        let taken = interval_part::part_taken(text, at, line, state, verdicts);
+        let taken = reader::interval_of(text, at, line, state, verdicts);
         let number = taken.number;
         if number != 0 {
             return put_refusal(out, p, number, taken.line);
@@ -318,7 +318,7 @@ fn put_many(text: &[u8], out: &mut [u8]) -> Ending
     ensures { λ r. ⌜ PartsPut (now (text .entry)) (now (out .entry)) (now (out .exit)) (r .at) (r .number) (r .line) ⌝ }
 {
     let mut state = [0i64; rules_state::STATE_ROOM];
-    let opened = opening_part::part_opened(text, &mut state);
+    let opened = reader::opening_of(text, &mut state);
     let mut shown = [0i64; 2 * Interval::MAX_RESOURCES];
     let mut places = [0usize; 2 * Interval::MAX_RESOURCES];
     let mut widths = [0u8; Mitigated::MAX_STEPS * Interval::MAX_RESOURCES];
@@ -339,7 +339,7 @@ fn put_few(text: &[u8], out: &mut [u8]) -> Ending
     ensures { λ r. ⌜ PartsPut (now (text .entry)) (now (out .entry)) (now (out .exit)) (r .at) (r .number) (r .line) ⌝ }
 {
     let mut state = [0i64; FEW_CELLS];
-    let opened = opening_part::part_opened(text, &mut state);
+    let opened = reader::opening_of(text, &mut state);
     if FEW_RESOURCES < opened.resources {
         return put_many(text, out);
     }
@@ -363,7 +363,7 @@ fn put_one(text: &[u8], out: &mut [u8]) -> Ending
     ensures { λ r. ⌜ PartsPut (now (text .entry)) (now (out .entry)) (now (out .exit)) (r .at) (r .number) (r .line) ⌝ }
 {
     let mut state = [0i64; ONE_CELLS];
-    let opened = opening_part::part_opened(text, &mut state);
+    let opened = reader::opening_of(text, &mut state);
     if 1 < opened.resources {
         return put_few(text, out);
     }

@@ -1,4 +1,5 @@
 -- Paper 01, Units, Curve, and Interval and hour: rounding up, the price of a quantity, and the mitigated curve, in full. Assumes nothing.
+use mathlib.Core.Bool.{true}
 use mathlib.Core.List.{List, [], _∷_}
 use mathlib.Core.Logic.{_⊎_, inl, inr, _↔_}
 use mathlib.Core.Path.{_≡_, refl, sym, ap, _∙_}
@@ -9,7 +10,7 @@ use lib.ListN.{length, getD}
 use lib.Signed.{_≤ℤ_, _<ℤ_}
 use Rattle.rules_number.specs.Order.{minZ, maxZ, eqZ}
 use Rattle.rules_number.specs.Ceil.{ceilDiv}
-use Rattle.rules_number.proofs.OrderLaws.{min-le-left, min-le-right, min-least, max-ge-left, max-ge-right, max-least, eqZ-same, eqZ-other}
+use Rattle.rules_number.proofs.OrderLaws.{min-le-left, min-le-right, min-least, max-ge-left, max-ge-right, max-least, eqZ-true, eqZ-same, eqZ-other}
 use Rattle.rules_number.proofs.CeilSize.{ceil-ge, ceil-lt}
 use Rattle.rules_number.proofs.CeilLaws.{ceil-unique}
 use Rattle.rules_number.proofs.OverLaws.{never}
@@ -37,6 +38,10 @@ smaller a b = (min-le-left a b, min-le-right a b, min-least (λ x. (x ≡ a) ⊎
 
 pub larger : (a b : ℤ) → (a ≤ℤ maxZ a b) × (b ≤ℤ maxZ a b) × ((maxZ a b ≡ a) ⊎ (maxZ a b ≡ b))
 larger a b = (max-ge-left a b, max-ge-right a b, max-least (λ x. (x ≡ a) ⊎ (x ≡ b)) a b (inl refl) (inr refl))
+
+-- whether two are the same
+pub same : (a b : ℤ) → (eqZ a b ≡ true) ↔ (a ≡ b)
+same a b = (eqZ-true a b, λ e. ap (λ (x : ℤ). eqZ x b) e ∙ eqZ-same b)
 
 -- ---- steps, numbered from 0, of a curve that starts at p
 abbrev pub ended : List Step → ℕ → ℕ

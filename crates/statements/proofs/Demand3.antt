@@ -25,11 +25,12 @@ use Rattle.rules_opening.specs.declared.Resource.{Resource}
 use Rattle.rules_opening.specs.declared.Opening.{Opening}
 use Rattle.rules_hour.specs.Hours.{Hour, curveIn, hourRefusal, hourAfter, hourAfterAll}
 use Rattle.rules_hour.specs.Opened.{openedHour}
-use Rattle.rules_hour.specs.Demand3.{acceptedCalls, sumOf, effectivenessOn, counterflowDemand, counterflowSupply, canWithhold, EachOnce, withheldBy, Enters, RisingFrom, Component, CapIn, NoCapIn, OneEach, none, one, no-other, howMany, answers, answersFrom, returningZero, countedBy, Answered, InBid, submittedPrice, defaultPrice, capsOf, caps, Capped, Owned, Demand3}
+use Rattle.rules_hour.specs.Demand3.{acceptedCalls, effectivenessOn, counterflowDemand, counterflowSupply, canWithhold, EachOnce, withheldBy, Enters, RisingFrom, Component, CapIn, NoCapIn, OneEach, none, one, no-other, howMany, answers, answersFrom, returningZero, countedBy, Answered, InBid, submittedPrice, defaultPrice, capsOf, caps, Capped, Owned, Demand3}
 use Rattle.rules_hour.specs.Conditions.{callDemands}
 use Rattle.rules_hour.proofs.AcceptedOpening.{few}
 use Rattle.rules_hour.proofs.Demand3.{demand-3}
 use Rattle.statements.proofs.Told.{and-so}
+use Rattle.statements.proofs.Plain.{SignedSum, SumOver}
 use Rattle.statements.proofs.Paths.{nobody, whoAt, amountAt, listFrom, from-length}
 use Rattle.statements.proofs.RefusedCalls.{Resources, Constraints, Limits, Outputs, CallSays, call-says, accepted-says}
 
@@ -53,14 +54,14 @@ module _ (o : Opening) (v : Interval) where
 
   -- "Demand is the sum of e × dispatch over all resources. Supply is the sum of e × available."
   abbrev pub Demand : ℕ → ℤ
-  Demand c = sumOf (λ r. e c r *ℤ getD (v .dispatch) r (pos 0)) (o .resources)
+  Demand c = SignedSum (λ r. e c r *ℤ getD (v .dispatch) r (pos 0)) (o .resources)
 
   abbrev pub Supply : ℕ → ℤ
-  Supply c = sumOf (λ r. e c r *ℤ getD (v .available) r (pos 0)) (o .resources)
+  Supply c = SignedSum (λ r. e c r *ℤ getD (v .available) r (pos 0)) (o .resources)
 
   -- "a portfolio can withhold the sum of e × (available - floor) over its resources"
   abbrev pub Withholdable : ℕ → ℕ → ℤ
-  Withholdable c p = sumOf (λ r. cond (eqZ (resource o r .portfolio) (pos p)) (e c r *ℤ (getD (v .available) r (pos 0) -ℤ getD (v .floor) r (pos 0))) (pos 0)) (o .resources)
+  Withholdable c p = SignedSum (λ r. cond (eqZ (resource o r .portfolio) (pos p)) (e c r *ℤ (getD (v .available) r (pos 0) -ℤ getD (v .floor) r (pos 0))) (pos 0)) (o .resources)
 
   -- "some choice of at most three net sellers, each withholding no more than it can"
   pub record Choice (c : ℕ) : Type 0 where
@@ -74,14 +75,14 @@ module _ (o : Opening) (v : Interval) where
 
   -- "A constraint enters that component exactly when it binds and some choice .. leaves counterflow supply below counterflow demand."
   abbrev pub Entering : ℕ → Type 0
-  Entering c = (pos 0 <ℤ getD (v .shadow) c (pos 0)) × ((x : Choice c) × ((Supply c -ℤ sumOf (λ i. pos (x .amount i)) (x .count)) <ℤ Demand c))
+  Entering c = (pos 0 <ℤ getD (v .shadow) c (pos 0)) × ((x : Choice c) × ((Supply c -ℤ SignedSum (λ i. pos (x .amount i)) (x .count)) <ℤ Demand c))
 
   -- C is "minus the sum of s × shadow over non-competitive constraints", each once
   abbrev pub IsComponent : ℕ → ℤ → Type 0
   IsComponent r C =
       (cs : List ℕ) × ((i : ℕ) → suc i < length cs → getD cs i 0 < getD cs (suc i) 0)
       × ((c : ℕ) → List·Memᴰ c cs ↔ ((c < v .constraints) × Entering c))
-      × (C ≡ negℤ (sumOver (λ c. s c r *ℤ getD (v .shadow) c (pos 0)) cs))
+      × (C ≡ negℤ (SumOver (λ c. s c r *ℤ getD (v .shadow) c (pos 0)) cs))
 
   -- "in which the resource was dispatched and its non-competitive congestion component was above zero": "The cap is the higher of its default price and the resource's competitive price in that
   -- interval plus the parameter", the competitive price being lmp - C / 1,000,000, up
@@ -192,11 +193,11 @@ once-at (x ∷ l) o i zero h k q = omega arith
 once-at (x ∷ l) o zero (suc j) h k q = o .0 (getD l j nobody) (mem-at l j (omega arith)) q
 once-at (x ∷ l) o (suc i) (suc j) h k q = once-at l (o .1) i j (omega arith) (omega arith) q
 
-sum-front : (f : ℕ → ℤ) (n : ℕ) → sumOf f (suc n) ≡ f 0 +ℤ sumOf (λ i. f (suc i)) n
+sum-front : (f : ℕ → ℤ) (n : ℕ) → SignedSum f (suc n) ≡ f 0 +ℤ SignedSum (λ i. f (suc i)) n
 sum-front f zero = +ℤ-idl (f 0) ∙ sym (+ℤ-idr (f 0))
-sum-front f (suc n) = ap (λ (z : ℤ). z +ℤ f (suc n)) (sum-front f n) ∙ +ℤ-assoc (f 0) (sumOf (λ i. f (suc i)) n) (f (suc n))
+sum-front f (suc n) = ap (λ (z : ℤ). z +ℤ f (suc n)) (sum-front f n) ∙ +ℤ-assoc (f 0) (SignedSum (λ i. f (suc i)) n) (f (suc n))
 
-pub sum-at : (l : List Withheld) → withheldBy l ≡ sumOf (λ i. pos (amountAt l i)) (length l)
+pub sum-at : (l : List Withheld) → withheldBy l ≡ SignedSum (λ i. pos (amountAt l i)) (length l)
 sum-at [] = refl
 sum-at (x ∷ l) = ap (λ (z : ℤ). pos (x .amount) +ℤ z) (sum-at l) ∙ sym (sum-front (λ i. pos (amountAt (x ∷ l) i)) (length l))
 
@@ -214,7 +215,7 @@ from-once (suc k) w a h = (
   from-once k (λ i. w (suc i)) (λ i. a (suc i)) (λ i j l m. h (suc i) (suc j) (omega arith) (omega arith)),
 )
 
-pub from-sum : (k : ℕ) (w a : ℕ → ℕ) → withheldBy (listFrom k w a) ≡ sumOf (λ i. pos (a i)) k
+pub from-sum : (k : ℕ) (w a : ℕ → ℕ) → withheldBy (listFrom k w a) ≡ SignedSum (λ i. pos (a i)) k
 from-sum zero w a = refl
 from-sum (suc k) w a = ap (λ (z : ℤ). pos (a 0) +ℤ z) (from-sum k (λ i. w (suc i)) (λ i. a (suc i))) ∙ sym (sum-front (λ i. pos (a i)) k)
 
@@ -279,6 +280,7 @@ module _ (o : Opening) (v : Interval) where
   )
 
   pub component-is : (r : ℕ) (C : ℤ) → Component o v r C ↔ IsComponent o v r C
+  unfolding sumOver
   component-is r C = (
     (λ h. (h .constraints, rising-at 0 (h .constraints) (h .once), (λ c. and-so (h .enters c) (within c)), h .sum)),
     λ h. record { constraints = h .0; once = rising-zero (h .0) (h .1); enters = λ c. and-so (h .2 c) (back c); sum = h .3 },

@@ -14,10 +14,10 @@ use Rattle.rules_gas.specs.Booked.{withGas, bookedRefusal, bookedCurve}
 use Rattle.rules_gas.specs.Meaning.{Entry, entries, Book, FailsToRise, IsRun, InUse}
 use Rattle.rules_gas.specs.declared.GasMarket.the-variants.{DayAhead, RealTime}
 use Rattle.rules_gas.specs.declared.GasPrice.{GasPrice}
-use Rattle.rules_gas.specs.declared.GasPrice.the-variants.{Is}
-use Rattle.rules_gas.proofs.CostAfterBook.{cost-after-book, no-curve, priced-as, gas-of}
+use Rattle.rules_gas.specs.declared.GasPrice.the-variants.{Is, Missing}
+use Rattle.rules_gas.proofs.CostAfterBook.{cost-after-book, no-curve, priced-as}
 use Rattle.rules_gas.proofs.GasRun.{run-is, run-only, empty-exactly, later-entries-unused}
-use Rattle.rules_gas.proofs.PriceInUse.{price-exactly}
+use Rattle.rules_gas.proofs.PriceInUse.{last-none, price-exactly, from-its-day}
 
 -- a list of (day, price) by its pairs: how many they are, and day and price of pair i
 abbrev Pairs : List ℕ → List (ℕ × ℕ)
@@ -139,7 +139,36 @@ pub record BookSays (day : ℕ) (l run : List ℕ) (price : GasPrice) (refusal :
   pub no-curve : (c : Costs) → run ≡ [] → curve c ≡ blankCurve
   -- else the default curve of the costs with that gas price, and their refusals
   pub at-price : (c : Costs) (p : ℕ) → price ≡ Is p → (refusal c ≡ costRefusal (withGas c p)) × (curve c ≡ unlessRefused (costRefusal (withGas c p)) (costCurve (withGas c p)))
-  pub gas-price : (c : Costs) (p : ℕ) → withGas c p .gas ≡ pos p
+  -- every other number of the costs stays, and the gas price that stood there isn't looked at
+  pub gas-price : (c : Costs) (p : ℕ) → withGas c p ≡ record {
+    count = c .count;
+    points = c .points;
+    gas = pos p;
+    rate = c .rate;
+    allowance = c .allowance;
+    om = c .om;
+    msc = c .msc;
+    soc = c .soc;
+    fee = c .fee;
+  }
+  -- no price exactly where the run is empty
+  pub no-price : (price ≡ Missing) ↔ (run ≡ [])
+  -- on other days: an entry's price is in use from its day on until the day before the next entry's
+  pub from-its-day : IsBook l → (i : ℕ) → i < Count l → Day l i ≤ day → (suc i < Count l → day < Day l (suc i)) → price ≡ Is (Price l i)
+
+gas-is : (c : Costs) (p : ℕ) → withGas c p ≡ record {
+  count = c .count;
+  points = c .points;
+  gas = pos p;
+  rate = c .rate;
+  allowance = c .allowance;
+  om = c .om;
+  msc = c .msc;
+  soc = c .soc;
+  fee = c .fee;
+}
+unfolding withGas
+gas-is c p = refl
 
 module _ (day : ℕ) (l : List ℕ) where
   three : (runIn day l ≡ []) ↔ ((length l % 2 ≡ 1) ⊎ (Falls l ⊎ ((i : ℕ) → i < Count l → day < Day l i)))
@@ -158,6 +187,13 @@ module _ (day : ℕ) (l : List ℕ) where
   used : IsBook l → (p : ℕ) → (lastPrice (runIn day l) ≡ Is p) ↔ InUseOn day l p
   used b p = let e = price-exactly day l (book l b) p in ((λ h. use-told day l p (e .0 h)), λ u. e .1 (use-back day l p u))
 
+  in-use-from : IsBook l → (i : ℕ) → i < Count l → Day l i ≤ day → (suc i < Count l → day < Day l (suc i)) → lastPrice (runIn day l) ≡ Is (Price l i)
+  in-use-from b i h up next =
+      price-exactly day l (book l b) (Price l i) .1
+      (subst (λ (e : Entry). InUse day (entries l) (e .price)) (day-is l i)
+      (from-its-day day (entries l) i (book l b .rising) (subst (λ (n : ℕ). i < n) (sym (count-is l)) h) (subst (λ (e : Entry). e .day ≤ day) (sym (day-is l i)) up)
+      (λ k. subst (λ (e : Entry). day < e .day) (sym (day-is l (suc i))) (next (subst (λ (n : ℕ). suc i < n) (count-is l) k)))))
+
   -- "out of the day-ahead list or the real-time list .. The answer never depends on the other list": the other list is any
   pub day-ahead-book : (other : List ℕ) → BookSays day l (gasRun DayAhead day l other) (priceInUse DayAhead day l other) (bookedRefusal DayAhead day l other) (bookedCurve DayAhead day l other)
   day-ahead-book other = record {
@@ -167,7 +203,9 @@ module _ (day : ℕ) (l : List ℕ) where
     before-costs = cost-after-book DayAhead day l other;
     no-curve = no-curve DayAhead day l other;
     at-price = priced-as DayAhead day l other;
-    gas-price = λ c p. gas-of c p .gas;
+    gas-price = λ c p. gas-is c p;
+    no-price = last-none (runIn day l);
+    from-its-day = in-use-from;
   }
 
   pub real-time-book : (other : List ℕ) → BookSays day l (gasRun RealTime day other l) (priceInUse RealTime day other l) (bookedRefusal RealTime day other l) (bookedCurve RealTime day other l)
@@ -178,7 +216,9 @@ module _ (day : ℕ) (l : List ℕ) where
     before-costs = cost-after-book RealTime day other l;
     no-curve = no-curve RealTime day other l;
     at-price = priced-as RealTime day other l;
-    gas-price = λ c p. gas-of c p .gas;
+    gas-price = λ c p. gas-is c p;
+    no-price = last-none (runIn day l);
+    from-its-day = in-use-from;
   }
 
   -- entries that follow and are later than the day change nothing

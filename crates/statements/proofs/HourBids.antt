@@ -44,10 +44,8 @@ module _ (o : Opening) (calls : List Request) (r : ℕ) where
       (p ≡ bid o r .start) × (endOf p l ≡ endOf (bid o r .start) (stepsOf (bid o r))) × Rises p l × Differ l
       × ((q : ℕ) → bid o r .start ≤ q → q < endOf (bid o r .start) (stepsOf (bid o r)) → LowestOf (P first q) (P second q) (P third q) (P fourth q) (priceAt l q))
 
-  abbrev given : Mitigated
-  given = hourBidOf (hour o calls) r
-
-  pub record HourBidSays : Type 0 where
+  -- of the curve that is given
+  pub record HourBidIs (given : Mitigated) : Type 0 where
     pub first : List Request
     pub second : List Request
     pub third : List Request
@@ -58,6 +56,9 @@ module _ (o : Opening) (calls : List Request) (r : ℕ) where
     -- "while cuts carry on, this is the fourth curve. Room of 19 steps must be enough", 20 since a default curve may have 11.
     pub fourth-curve : given ≡ curveIn (hour o fourth .hour) r
     pub twenty-steps : given .count ≤ 20
+
+  abbrev pub HourBidSays : Type 0
+  HourBidSays = HourBidIs (hourBidOf (hour o calls) r)
 
 -- ---- from the theorems
 ending-is : (o : Opening) (calls before : List Request) → prefixesFrom o before calls ≡ Ending o before calls

@@ -22,14 +22,15 @@ use Rattle.rules_opening.specs.Openings.{openingRefusal}
 use Rattle.rules_opening.specs.declared.Opening.{Opening}
 use Rattle.rules_hour.specs.Hours.{Hour, floorIn, curveIn, hourRefusal, hourVerdicts, hourAfterAll}
 use Rattle.rules_hour.specs.Opened.{openedHour}
-use Rattle.rules_hour.specs.Demand3.{sumOf, acceptedCalls, counterflowDemand, counterflowSupply, canWithhold, effectivenessOn, InBid}
+use Rattle.rules_hour.specs.Demand3.{acceptedCalls, counterflowDemand, counterflowSupply, canWithhold, effectivenessOn, InBid}
 use Rattle.rules_hour.proofs.Demand3.{demand-3}
-use Rattle.rules_hour.proofs.FourIntervals.{at-most-four, next-exactly}
+use Rattle.rules_hour.proofs.FourIntervals.{at-most-four, twelve-exactly, next-exactly}
 use Rattle.rules_hour.proofs.IntervalStep.{interval-by-interval}
 use Rattle.rules_hour.proofs.VerdictNumbers.{Judged, refused-judges-nothing, accepted-judged}
 use Rattle.rules_hour.proofs.CurveShape.{Shape, shape, opened-shape}
 use Rattle.rules_hour.proofs.AcceptedOpening.{few}
 use Rattle.statements.proofs.Told.{and-so}
+use Rattle.statements.proofs.Plain.{SignedSum}
 use Rattle.statements.proofs.Paths.{Bit}
 use Rattle.statements.proofs.Curves.{Mitigates, mitigates}
 use Rattle.statements.proofs.RefusedCalls.{CallSays, call-says}
@@ -46,8 +47,8 @@ pub record JudgedSays (o : Opening) (v : Interval) (c : ℕ) (x : Verdict) : Typ
   pub non-competitive : (x .finding ≡ finding.NonCompetitive) ↔ Entering o v c
   pub demand : pos 0 <ℤ getD (v .shadow) c (pos 0) → pos (x .demand) ≡ Demand o v c
   -- "left", supply less the three largest such amounts
-  pub left : pos 0 <ℤ getD (v .shadow) c (pos 0) → (y : Choice o v c) × (pos (x .left) ≡ Supply o v c -ℤ sumOf (λ i. pos (y .amount i)) (y .count))
-  pub none-less : pos 0 <ℤ getD (v .shadow) c (pos 0) → (y : Choice o v c) → pos (x .left) ≤ℤ (Supply o v c -ℤ sumOf (λ i. pos (y .amount i)) (y .count))
+  pub left : pos 0 <ℤ getD (v .shadow) c (pos 0) → (y : Choice o v c) × (pos (x .left) ≡ Supply o v c -ℤ SignedSum (λ i. pos (y .amount i)) (y .count))
+  pub none-less : pos 0 <ℤ getD (v .shadow) c (pos 0) → (y : Choice o v c) → pos (x .left) ≤ℤ (Supply o v c -ℤ SignedSum (λ i. pos (y .amount i)) (y .count))
   pub withheld : (p : ℕ) → p < 16 → Bit p (x .named) ≡ 1 → (p < o .portfolios) × (getD (o .sellers) p (pos 0) ≡ pos 1) × (pos (getD (x .withheld) p 0) ≡ Withholdable o v c p)
   pub others : (p : ℕ) → p < 16 → Bit p (x .named) ≡ 0 → getD (x .withheld) p 0 ≡ 0
 
@@ -55,6 +56,8 @@ pub record CallHandsBack (o : Opening) (calls : List Interval) (v : Interval) : 
   -- "An interval call is accepted exactly when none of 12 to 16 applies, and 12 counts the accepted ones before it in the list."
   pub number : CallSays (length (Accepted o calls)) (intervalRefusal (o .resources) v) (hourRefusal (hourAt o calls) v)
   pub at-most-four : length (Accepted o calls) ≤ 4
+  -- 12 "four already accepted"
+  pub twelve : (hourRefusal (hourAt o calls) v ≡ 12) ↔ (length (Accepted o calls) ≡ 4)
   pub verdicts : hourRefusal (hourAt o calls) v ≡ 0 → (c : ℕ) → c < v .constraints → JudgedSays o v c (getD (hourVerdicts (hourAt o calls) v) c notBinding)
   -- "A refusal returns its number alone": no verdicts, and "a refused call leaves it as it was"
   pub refused : (n : ℕ) → hourRefusal (hourAt o calls) v ≡ suc n → (hourVerdicts (hourAt o calls) v ≡ replicate 32 notBinding) × (hourAt o (calls ++ (v ∷ [])) ≡ hourAt o calls)
@@ -108,6 +111,7 @@ module _ (o : Opening) (opened : openingRefusal o ≡ 0) where
         number = subst (λ (A : List Interval). CallSays (length A) (intervalRefusal (o .resources) v) (hourRefusal (hourAt o calls) v)) same
             (call-says (length (acceptedCalls o calls)) (o .resources) (hourRefusal (hourAt o calls) v) v (few o opened .2) (next-exactly o calls opened v));
         at-most-four = rw (← same) (at-most-four o calls);
+        twelve = rw (← same) (twelve-exactly o calls opened v);
         verdicts = λ e c l. verdict-says o v c _ (accepted-judged o opened calls v e c l);
         refused = λ n e. (refused-judges-nothing o calls v opened n e, interval-by-interval o calls v 0 opened (few o opened .1) .refused n e);
       }

@@ -1,5 +1,6 @@
 -- What the headline theorems say, in full.
 pub mod Told
+pub mod Plain
 pub mod Refusals
 pub mod RefusedOpenings
 pub mod RefusedCalls
@@ -17,7 +18,14 @@ pub mod Hours
 pub mod Passes
 pub mod HourBids
 pub mod GasBooks
+pub mod Checks
+pub mod Opened
+pub mod Library
 pub mod Runs
 pub mod Programs
 pub mod Missing
 pub mod Numbers
+pub mod Inputs
+pub mod Answers
+pub mod Returned
+pub mod ReturnedNumbers

@@ -17,7 +17,7 @@ use Rattle.rules_cost.specs.declared.Point.{Point}
 use Rattle.rules_cost.specs.declared.Costs.{Costs}
 use Rattle.rules_interval.specs.declared.Interval.{Interval}
 use Rattle.rules_path.specs.Paths.{Path, left}
-use Rattle.rules_path.specs.Verdicts.{verdictOf, notBinding, findingNumber}
+use Rattle.rules_path.specs.Verdicts.{verdictOf, notBinding}
 use Rattle.rules_path.specs.declared.Verdict.{Verdict}
 use Rattle.rules_path.specs.declared.Finding.the-variants as finding
 use Rattle.rules_opening.specs.Openings.{noRaw, noResource, openingRefusal}
@@ -27,6 +27,7 @@ use Rattle.rules_hour.specs.Cuts.{cutBy}
 use Rattle.rules_hour.specs.Hours.{curveIn, hourRefusal, hourVerdicts, hourAfterAll}
 use Rattle.rules_hour.specs.Opened.{openedHour}
 use Rattle.rules_hour.proofs.Marked.{marked}
+use Rattle.statements.proofs.Plain.{Found, Padded}
 
 abbrev step : ℕ → ℕ → Step
 step e p = record { end = e; price = pos p }
@@ -35,14 +36,14 @@ abbrev submitted : ℕ → ℕ → RawStep
 submitted e p = record { end = pos e; price = pos p }
 
 abbrev bid : ℕ → ℕ → List RawStep → RawCurve
-bid start count steps = record { start = pos start; count = count; steps = padded 11 (submitted 0 0) steps }
+bid start count steps = record { start = pos start; count = count; steps = Padded 11 (submitted 0 0) steps }
 
 abbrev point : ℕ → ℕ → Point
 point m h = record { mw = pos m; heat = pos h }
 
 abbrev costs : ℕ → List Point → ℕ → ℕ → ℕ → ℕ → ℕ → Costs
 costs count points gas om msc soc fee =
-    record { count = count; points = padded 11 (point 0 0) points; gas = pos gas; rate = pos 0; allowance = pos 0; om = pos om; msc = pos msc; soc = pos soc; fee = pos fee }
+    record { count = count; points = Padded 11 (point 0 0) points; gas = pos gas; rate = pos 0; allowance = pos 0; om = pos om; msc = pos msc; soc = pos soc; fee = pos fee }
 
 -- ---- Case T
 abbrev costsT : Costs
@@ -52,22 +53,22 @@ abbrev openingT : Opening
 openingT = record {
   month = pos 25;
   portfolios = 1;
-  sellers = padded 16 (pos 0) (pos 1 ∷ []);
+  sellers = Padded 16 (pos 0) (pos 1 ∷ []);
   resources = 1;
-  list = padded 64 noResource (record { portfolio = pos 0; bid = bid 10000 2 (submitted 15000 300000 ∷ submitted 30000 900000 ∷ []); source = source.Costs; costs = costsT; pack = noRaw } ∷ []);
+  list = Padded 64 noResource (record { portfolio = pos 0; bid = bid 10000 2 (submitted 15000 300000 ∷ submitted 30000 900000 ∷ []); source = source.Costs; costs = costsT; pack = noRaw } ∷ []);
 }
 
 -- T's interval, whose lmp is 600000
 abbrev intervalWith : ℕ → Interval
 intervalWith lmp = record {
   constraints = 1;
-  shadow = padded 32 (pos 0) (pos 500000 ∷ []);
+  shadow = Padded 32 (pos 0) (pos 500000 ∷ []);
   resources = 1;
-  lmp = padded 64 (pos 0) (pos lmp ∷ []);
-  dispatch = padded 64 (pos 0) (pos 20000 ∷ []);
-  available = padded 64 (pos 0) (pos 30000 ∷ []);
-  floor = padded 64 (pos 0) [];
-  factors = padded 2048 (pos 0) (negℤ (pos 500000) ∷ []);
+  lmp = Padded 64 (pos 0) (pos lmp ∷ []);
+  dispatch = Padded 64 (pos 0) (pos 20000 ∷ []);
+  available = Padded 64 (pos 0) (pos 30000 ∷ []);
+  floor = Padded 64 (pos 0) [];
+  factors = Padded 2048 (pos 0) (negℤ (pos 500000) ∷ []);
   parameter = pos 100;
 }
 
@@ -102,21 +103,24 @@ path dispatch s = record {
 -- ---- the table
 -- "P1 T's costs give 378402, 488402." With the split "the second segment becomes 444403 up to 24000 and 488402 up to 30000"
 pub p1 : (costRefusal costsT ≡ 0) × (stepsOf (costCurve costsT) ≡ step 20000 378402 ∷ step 24000 444403 ∷ step 30000 488402 ∷ [])
+unfolding padded
 p1 = (marked .p1-taken, marked .p1)
 
 -- "P2 T's curve.", and what T prints before it: verdict 1, demand 10000000000, left 0; portfolio 0 withholds 15000000000
 pub p2 : (openingRefusal openingT ≡ 0)
     × (hourRefusal (openedHour openingT) (intervalWith 600000) ≡ 0)
     × (curveT (intervalWith 600000 ∷ []) ≡ step 15000 300000 ∷ step 20000 378402 ∷ step 24000 444403 ∷ step 30000 488402 ∷ [])
-    × (findingNumber (verdictT .finding) ≡ 1)
+    × (Found (verdictT .finding) ≡ 1)
     × (verdictT .demand ≡ 10000000000)
     × (verdictT .left ≡ 0)
     × (verdictT .named ≡ 1)
-    × (verdictT .withheld ≡ padded 16 0 (15000000000 ∷ []))
+    × (verdictT .withheld ≡ Padded 16 0 (15000000000 ∷ []))
+unfolding padded
 p2 = (marked .p2-opened, marked .p2-taken, marked .p2, marked .p2-finding, marked .p2-demand, marked .p2-left, marked .p2-named, marked .p2-withheld)
 
 -- "P3 n 10, w 3: R 4; n -10: -3."
 pub p3 : ((rateAt (costs3 5 4) 0 ≡ pos 4) × (rateAt (costs3 5 4) 1 ≡ pos 4)) × ((rateAt (costs3 10 2) 0 ≡ negℤ (pos 3)) × (rateAt (costs3 10 2) 1 ≡ negℤ (pos 3)))
+unfolding padded
 p3 = (marked .p3-up, marked .p3-down)
 
 -- "P4 PMax 30000: end 24000 is limited, 24001 isn't." With the split an end at 24000 is one step, and one at 24001 is two, of which the upper isn't limited
@@ -126,6 +130,7 @@ p4 = (marked .p4-limited, marked .p4-not)
 pub p4-split : ((stepCount (endsAt 24000) ≡ 2) × (rateAt (endsAt 24000) 0 ≡ pos 9500))
     × ((stepCount (endsAt 24001) ≡ 3) × (endAt (endsAt 24001) 0 ≡ pos 24000) × (endAt (endsAt 24001) 1 ≡ pos 24001))
     × ((rateAt (endsAt 24001) 0 ≡ pos 9500) × (rateAt (endsAt 24001) 1 ≡ pos 12000))
+unfolding padded
 p4-split = (marked .p4-whole, marked .p4-two, marked .p4-two-rates)
 
 -- "P5 withholdable 5, 4, 3, 2, all supply: left 2; demand 2 competitive, 3 not."
@@ -142,6 +147,7 @@ p7 lmp parameter = (marked .p7-cut lmp parameter, marked .p7-none lmp parameter)
 
 -- "P8 bid 300000, default 378402, L 350100: stays 300000.", and so in T's hour
 pub p8 : (capped (Cut (pos 350100)) (pos 300000) (pos 378402) ≡ pos 300000) × (priceAt (curveT (intervalWith 600000 ∷ [])) 10000 ≡ pos 300000)
+unfolding padded
 p8 = (marked .p8, marked .p8-hour)
 
 -- "P9 bid 900000, default 378402, L 500000 then 350100: 500000, then 378402.", and so in T's hour
@@ -149,8 +155,10 @@ pub p9 : (capped (lowered Uncut (Cut (pos 500000))) (pos 900000) (pos 378402) �
     × (capped (lowered (lowered Uncut (Cut (pos 500000))) (Cut (pos 350100))) (pos 900000) (pos 378402) ≡ pos 378402)
     × (priceAt (curveT (intervalWith 749900 ∷ [])) 15000 ≡ pos 500000)
     × (priceAt (curveT (intervalWith 749900 ∷ intervalWith 600000 ∷ [])) 15000 ≡ pos 378402)
+unfolding padded
 p9 = (marked .p9-first, marked .p9-then, marked .p9-hour-first, marked .p9-hour-then)
 
 -- "P10 price 5000001: refused in month 12, taken in 13."
 pub p10 : (bidRefusal 12 (bid 0 1 (submitted 1 5000001 ∷ [])) ≡ 3) × (bidRefusal 13 (bid 0 1 (submitted 1 5000001 ∷ [])) ≡ 0)
+unfolding padded
 p10 = (marked .p10-refused, marked .p10-taken)

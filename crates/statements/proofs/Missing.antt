@@ -7,8 +7,7 @@ use mathlib.Core.Path.{_≡_}
 use Prim.Native.Nat.{ℕ, suc, _+_, _*_, _≤_}
 use lib.IntN.{ℤ, pos}
 use lib.ListN.{length, getD}
-use Rattle.rules_text.specs.Numbers.{Line, bytes, lines}
-use Rattle.rules_text.specs.Printing.{lineText}
+use Rattle.rules_text.specs.Numbers.{Line, lines}
 use Rattle.rules_parts.specs.Parts.{parameterOf}
 use Rattle.rules_parts.proofs.OnlyInterval.{parameter-exactly}
 use Rattle.rules_run.specs.Run.{outputBy, output, endBy, endOf}
@@ -17,20 +16,21 @@ use Rattle.rules_run.proofs.WrittenLines.{written-says, stays-exactly, no-more-
 use Rattle.rules_run.proofs.Written.{written-100, written-100-ends, nothing-missing, nothing-missing-ends}
 use Rattle.statements.proofs.Texts.{Twelve}
 use Rattle.statements.proofs.Told.{and-so}
+use Rattle.statements.proofs.Plain.{Ascii, LineOf, line-is}
 
 -- "Parameter "-" alone is missing", and "Missing now means 0"; any other parameter is the number that is written
-pub parameter : (l : Line) (z : ℤ) → (parameterOf l ≡ some z) ↔ (((l ≡ bytes "-\n") × (z ≡ pos 0)) ⊎ ((l ≡ lineText (z ∷ [])) × Twelve z))
-parameter l z = parameter-exactly l z
+pub parameter : (l : Line) (z : ℤ) → (parameterOf l ≡ some z) ↔ (((l ≡ Ascii "-\n") × (z ≡ pos 0)) ⊎ ((l ≡ LineOf (z ∷ [])) × Twelve z))
+parameter l z = rw (← line-is (z ∷ [])) (parameter-exactly l z)
 
 -- line i of a text, from 0, is the names of the parameter's table and the next is "-" alone
 abbrev Missing : List ℕ → ℕ → Type 0
-Missing t i = (getD (lines t) i [] ≡ bytes "parameter\n") × (getD (lines t) (suc i) [] ≡ bytes "-\n")
+Missing t i = (getD (lines t) i [] ≡ Ascii "parameter\n") × (getD (lines t) (suc i) [] ≡ Ascii "-\n")
 
 pub record MissingSays (t : List ℕ) : Type 0 where
   -- "must write 100": for each missing parameter, and no other line changes
   pub lines-stay : length (lines (written t)) ≡ length (lines t)
   pub first-stays : getD (lines (written t)) 0 [] ≡ getD (lines t) 0 []
-  pub hundred : (i : ℕ) → Missing t i → getD (lines (written t)) (suc i) [] ≡ bytes "100\n"
+  pub hundred : (i : ℕ) → Missing t i → getD (lines (written t)) (suc i) [] ≡ Ascii "100\n"
   pub others-stay : (i : ℕ) → (Missing t i → ⊥) → getD (lines (written t)) (suc i) [] ≡ getD (lines t) (suc i) []
   pub two-bytes-each : length (written t) ≡ length t + 2 * missingIn false (lines t)
   pub stays : (written t ≡ t) ↔ ((i : ℕ) → Missing t i → ⊥)

@@ -5,10 +5,11 @@ use mathlib.Core.Path.{_≡_, refl, sym, ap, subst, _∙_}
 use Prim.Native.Nat.{ℕ, _+_, _*_, _≤_, _<_, min}
 use borrow.Author.Tests.{le-leb}
 use lib.IntN.{ℤ, pos, negsuc, _+ℤ_, _-ℤ_, _*ℤ_}
-use lib.ListN.{length, getD, length-map}
+use native.Mathlib.Omega.{arith}
+use lib.Count.{ones}
+use lib.ListN.{length, getD, take, length-map}
 use lib.Seq.{sets}
 use lib.Signed.{_≤ℤ_, _<ℤ_}
-use Rattle.rules_number.specs.Order.{natOf}
 use Rattle.rules_number.specs.Over.{listed}
 use Rattle.rules_curve.specs.Curves.{stepTo, stepsOf}
 use Rattle.rules_curve.specs.declared.Curve.{Curve}
@@ -20,7 +21,7 @@ use Rattle.rules_mitigation.specs.declared.Mitigated.{Mitigated}
 use Rattle.rules_interval.specs.Intervals.{intervalRefusal}
 use Rattle.rules_interval.specs.declared.Interval.{Interval}
 use Rattle.rules_path.specs.Judgements.{pathIn}
-use Rattle.rules_path.specs.Verdicts.{findingNumber, verdictOf}
+use Rattle.rules_path.specs.Verdicts.{verdictOf}
 use Rattle.rules_path.specs.declared.Verdict.{Verdict}
 use Rattle.rules_opening.specs.Openings.{noResource, openingRefusal}
 use Rattle.rules_opening.specs.declared.Opening.{Opening}
@@ -35,7 +36,7 @@ use Rattle.rules_state.specs.States.{hourIn, stateCells}
 use Rattle.rules_state.specs.Fits.{Fits}
 use Rattle.rules_state.specs.Openings.{openingIn}
 use Rattle.rules_state.specs.Intervals.{intervalIn}
-use Rattle.rules_state.specs.Calls.{openAnswer, stateOpened, intervalAnswer, stateAfterInterval, verdictsAfterInterval, passAnswer, stateAfterPass, verdictsAfterPass, whyAnswer, causesAfter}
+use Rattle.rules_state.specs.Calls.{openAnswer, stateOpened, intervalAnswer, stateAfterInterval, verdictsAfterInterval, passAnswer, stateAfterPass, verdictsAfterPass, whyAnswer, causesAfter, sellersAnswer}
 use Rattle.rules_state.specs.Curves.{curveAnswer, curveEdges, curvePrices, fiveMinuteEdges, fiveMinutePrices, hourBidAnswer, hourBidEdges, hourBidPrices, defaultIn, defaultOfAnswer, defaultOfEdges, defaultOfPrices}
 use Rattle.rules_state.specs.Lists.{NumberCall, answerTo, verdictsOf, requestOf, requestsIn, stateAfterCalls}
 use Rattle.rules_state.proofs.StateCells.{CurveCells, state-cells}
@@ -44,9 +45,10 @@ use Rattle.rules_state.proofs.HourBack.{stored-back}
 use Rattle.rules_state.proofs.OpenedFits.{opened-fits}
 use Rattle.rules_state.proofs.StateCalls.{zero-opened, opening-answer, state-opened, opening-refused, opening-short, opening-past, interval-answer, interval-refused, interval-short, interval-touches, interval-keeps, state-interval, pass-answer, pass-refused, pass-short, pass-touches, pass-keeps, state-pass}
 use Rattle.rules_state.proofs.NumberCalls.{calls-in-numbers, calls-touch, called-hour, next-answer}
-use Rattle.rules_state.proofs.WrittenSlices.{CurveWritten, curve-answer, curve-short, curve-unwritten, five-minute-unwritten, hour-bid-unwritten, curve-written, five-minute-written, hour-bid-written, default-written, VerdictCells, interval-verdicts, pass-verdicts, interval-verdicts-left, pass-verdicts-left, causes-left, default-left, default-answer, default-short, why-short}
+use Rattle.rules_state.proofs.WrittenSlices.{CurveWritten, curve-answer, curve-short, curve-unwritten, five-minute-unwritten, hour-bid-unwritten, curve-written, five-minute-written, hour-bid-written, default-written, VerdictCells, interval-verdicts, pass-verdicts, sellers-short, sellers-past, interval-verdicts-left, pass-verdicts-left, causes-left, default-left, default-within, default-answer, default-short, why-short}
 use Rattle.rules_state.proofs.DefaultNumbers.{default-in-numbers}
 use Rattle.rules_state.proofs.WhyNumbers.{why-answer, why-in-numbers, zeros-past}
+use Rattle.statements.proofs.Plain.{Found, Whole, Listed}
 use Rattle.statements.proofs.Demand3.{default, IsComponent, OwnerSays, component-is}
 use Rattle.statements.proofs.Passes.{hour, Intervals, FiveMinuteSays, fives, hourly-price, five-minute-price}
 use Rattle.statements.proofs.HourBids.{HourBidSays, hour-bid-says}
@@ -58,23 +60,23 @@ at l i = getD l i (pos 0)
 -- ---- what every cell means, whatever it holds
 -- a curve: its number of steps, its start, eleven ends, eleven prices; those past its number of steps mean nothing
 pub record CurveSays (l : List ℤ) (i : ℕ) (c : Curve) : Type 0 where
-  pub count : c .count ≡ natOf (at l i)
-  pub start : c .start ≡ natOf (at l (i + 1))
-  pub used : stepsOf c ≡ listed (λ k. stepTo (natOf (at l (i + 2 + k))) (at l (i + 13 + k))) (min (natOf (at l i)) 11)
+  pub count : c .count ≡ Whole (at l i)
+  pub start : c .start ≡ Whole (at l (i + 1))
+  pub used : stepsOf c ≡ Listed (λ k. stepTo (Whole (at l (i + 2 + k))) (at l (i + 13 + k))) (min (Whole (at l i)) 11)
 
 pub record CellsSay (l : List ℤ) : Type 0 where
   -- 0: intervals accepted. 1 to 64: the cut mark of each resource, 0 uncut and any other number cut. 65 to 128: its lowest floor price
-  pub accepted : hourIn l .hour .standing .accepted ≡ natOf (at l 0)
+  pub accepted : hourIn l .hour .standing .accepted ≡ Whole (at l 0)
   pub uncut-mark : (r : ℕ) → r < 64 → at l (1 + r) ≡ pos 0 → getD (hourIn l .hour .standing .floors) r uncut .price ≡ Uncut
   pub cut-mark : (r : ℕ) → r < 64 → (at l (1 + r) ≡ pos 0 → ⊥) → getD (hourIn l .hour .standing .floors) r uncut .price ≡ Cut (at l (65 + r))
   -- 129: passes accepted since the last accepted interval. 130 to 193 and 194 to 257: marks and floor prices of the quarter hour
-  pub passes : hourIn l .quarter .passes ≡ natOf (at l 129)
+  pub passes : hourIn l .quarter .passes ≡ Whole (at l 129)
   pub pass-uncut : (r : ℕ) → r < 64 → at l (130 + r) ≡ pos 0 → getD (hourIn l .quarter .floors) r uncut .price ≡ Uncut
   pub pass-cut : (r : ℕ) → r < 64 → (at l (130 + r) ≡ pos 0 → ⊥) → getD (hourIn l .quarter .floors) r uncut .price ≡ Cut (at l (194 + r))
   -- 258: resources. 259 to 322: the portfolio of each. 323 to 338: the mark of each portfolio
-  pub resources : hourIn l .hour .market .resources ≡ natOf (at l 258)
-  pub portfolio : (r : ℕ) → r < 64 → getD (hourIn l .hour .market .portfolio) r 0 ≡ natOf (at l (259 + r))
-  pub seller : (p : ℕ) → p < 16 → getD (hourIn l .hour .market .seller) p 0 ≡ natOf (at l (323 + p))
+  pub resources : hourIn l .hour .market .resources ≡ Whole (at l 258)
+  pub portfolio : (r : ℕ) → r < 64 → getD (hourIn l .hour .market .portfolio) r 0 ≡ Whole (at l (259 + r))
+  pub seller : (p : ℕ) → p < 16 → getD (hourIn l .hour .market .seller) p 0 ≡ Whole (at l (323 + p))
   -- 339 + 48 r and 24 more: the bid of resource r. 363 + 48 r and 24 more: its default curve
   pub bid : (r : ℕ) → r < 64 → CurveSays l (339 + 48 * r) (getD (hourIn l .hour .rows) r noRow .bid)
   pub default : (r : ℕ) → r < 64 → CurveSays l (363 + 48 * r) (getD (hourIn l .hour .rows) r noRow .default)
@@ -83,7 +85,7 @@ pub record CellsSay (l : List ℤ) : Type 0 where
 -- a curve as it is read: its start, its number of steps, end and price of eleven steps in turn
 pub record RawSays (l : List ℤ) (i : ℕ) (c : RawCurve) : Type 0 where
   pub start : c .start ≡ at l i
-  pub count : c .count ≡ natOf (at l (i + 1))
+  pub count : c .count ≡ Whole (at l (i + 1))
   pub step : (k : ℕ) → k < 11 → (d : RawStep) → getD (c .steps) k d ≡ record { end = at l (i + 2 + 2 * k); price = at l (i + 3 + 2 * k) }
 
 raw-says : {l : List ℤ} {i : ℕ} {c : RawCurve} → CurveRead l i c → RawSays l i c
@@ -96,7 +98,7 @@ pub record ResourceSays (l : List ℤ) (i : ℕ) (x : Resource) : Type 0 where
   pub bid : RawSays l (i + 1) (x .bid)
   pub costs : at l (i + 25) ≡ pos 0 → x .source ≡ source.Costs
   pub packed : (at l (i + 25) ≡ pos 0 → ⊥) → x .source ≡ source.Pack
-  pub points : x .costs .count ≡ natOf (at l (i + 26))
+  pub points : x .costs .count ≡ Whole (at l (i + 26))
   pub point : (k : ℕ) → k < 11 → getD (x .costs .points) k blankPoint ≡ record { mw = at l (i + 27 + 2 * k); heat = at l (i + 28 + 2 * k) }
   pub gas : x .costs .gas ≡ at l (i + 49)
   pub rate : x .costs .rate ≡ at l (i + 50)
@@ -171,6 +173,7 @@ module _ (constraints : ℕ) (shadow : List ℤ) (resources : ℕ) (outputs fact
 
 -- ---- from the theorems
 cells-curve : {l : List ℤ} {i : ℕ} {c : Curve} → CurveCells l i c → CurveSays l i c
+unfolding listed Listed
 cells-curve x = record { count = x .count; start = x .start; used = x .used }
 
 pub cells-say : (l : List ℤ) → CellsSay l
@@ -329,6 +332,7 @@ module _ (s : List ℤ) (o : Opening) (opened : openAnswer s o ≡ pos 0) (calls
 module _ (c : Mitigated) (edges : List ℕ) (prices : List ℤ) (edges' : List ℕ) (prices' : List ℤ) where
   pub record WritesCurve : Type 0 where
     pub room : length (c .steps) ≡ 20
+    pub within : c .count ≤ 20
     pub edge : (k : ℕ) → k < 22 → getD edges' k 0 ≡ getD (c .count ∷ c .start ∷ map (λ s. s .end) (c .steps)) k 0
     pub price : (k : ℕ) → k < 20 → getD prices' k (pos 0) ≡ getD (map (λ s. s .price) (c .steps)) k (pos 0)
     pub edges-past : (k : ℕ) → 22 ≤ k → getD edges' k 0 ≡ getD edges k 0
@@ -337,6 +341,7 @@ module _ (c : Mitigated) (edges : List ℕ) (prices : List ℤ) (edges' : List �
   writes : CurveWritten c edges prices edges' prices' → WritesCurve
   writes w = record {
     room = sym (length-map (c .steps) (λ s. s .price)) ∙ w .priced .many;
+    within = w .few;
     edge = w .ends .here;
     price = w .priced .here;
     edges-past = w .ends .past;
@@ -376,7 +381,8 @@ module _ (s : List ℤ) (r : ℕ) (edges : List ℕ) (prices : List ℤ) where
   of = defaultIn s r
 
   pub record WritesDefault : Type 0 where
-    pub edge : (k : ℕ) → k < 13 → getD (defaultOfEdges s r edges prices) k 0 ≡ getD (of .count ∷ of .start ∷ map (λ s. s .end) (of .steps)) k 0
+    pub edge : (k : ℕ) → k < 13 → getD (defaultOfEdges s r edges prices) k 0 ≡ getD (length (take (of .count) (of .steps)) ∷ of .start ∷ map (λ s. s .end) (of .steps)) k 0
+    pub within : getD (defaultOfEdges s r edges prices) 0 0 ≤ 11
     pub price : (k : ℕ) → k < 11 → getD (defaultOfPrices s r edges prices) k (pos 0) ≡ getD (map (λ s. s .price) (of .steps)) k (pos 0)
     pub edges-past : (k : ℕ) → 13 ≤ k → getD (defaultOfEdges s r edges prices) k 0 ≡ getD edges k 0
     pub prices-past : (k : ℕ) → 11 ≤ k → getD (defaultOfPrices s r edges prices) k (pos 0) ≡ getD prices k (pos 0)
@@ -389,12 +395,12 @@ module _ (s : List ℤ) (r : ℕ) (edges : List ℕ) (prices : List ℤ) where
   default-too-short = default-short s edges prices
 
   pub default-says : defaultOfAnswer s edges prices ≡ pos 0 → WritesDefault
-  default-says e = let w = default-written s edges prices r e in record { edge = w .0 .here; price = w .1 .here; edges-past = w .0 .past; prices-past = w .1 .past }
+  default-says e = let w = default-written s edges prices r e in record { edge = w .0 .here; within = rw (w .0 .here 0 (omega arith)) (default-within s edges prices r); price = w .1 .here; edges-past = w .0 .past; prices-past = w .1 .past }
 
 -- ---- the verdicts of an accepted interval, or pass: twenty numbers of each of its constraints
 -- a verdict from number i of a slice on: 0 competitive, 1 non-competitive, 2 not binding; demand; left; bit p for each seller named; what each of 16 portfolios withholds
 pub record VerdictSays (l : List ℤ) (i : ℕ) (x : Verdict) : Type 0 where
-  pub finding : at l i ≡ pos (findingNumber (x .finding))
+  pub finding : at l i ≡ pos (Found (x .finding))
   pub demand : at l (i + 1) ≡ pos (x .demand)
   pub left : at l (i + 2) ≡ pos (x .left)
   pub named : at l (i + 3) ≡ pos (x .named)
@@ -402,6 +408,22 @@ pub record VerdictSays (l : List ℤ) (i : ℕ) (x : Verdict) : Type 0 where
 
 verdict-says : {l : List ℤ} {i : ℕ} {x : Verdict} → VerdictCells l i x → VerdictSays l i x
 verdict-says v = record { finding = v .finding; demand = v .demand; left = v .left; named = v .named; withheld = v .withheld }
+
+-- how many sellers a verdict names is counted from its bits: at most three
+module _ (s verdicts : List ℤ) (v : Interval) where
+  pub interval-sellers : intervalAnswer s verdicts v ≡ pos 0 → (c : ℕ) → c < v .constraints
+      → sellersAnswer (verdictsAfterInterval s verdicts v) c ≡ pos (ones (verdictOf (pathIn (hourIn s .hour .market) v c) .named))
+  interval-sellers e = interval-verdicts s verdicts v e .sellers
+
+  pub pass-sellers : passAnswer s verdicts v ≡ pos 0 → (c : ℕ) → c < v .constraints
+      → sellersAnswer (verdictsAfterPass s verdicts v) c ≡ pos (ones (verdictOf (pathIn (hourIn s .hour .market) v c) .named))
+  pass-sellers e = pass-verdicts s verdicts v e .sellers
+
+pub sellers-too-short : (l : List ℤ) (c : ℕ) → length l < 640 → sellersAnswer l c ≡ negsuc 0
+sellers-too-short = sellers-short
+
+pub no-sellers-past : (l : List ℤ) (c : ℕ) → 640 ≤ length l → 32 ≤ c → sellersAnswer l c ≡ pos 0
+no-sellers-past = sellers-past
 
 module _ (s verdicts : List ℤ) (v : Interval) where
   pub interval-verdicts-say : intervalAnswer s verdicts v ≡ pos 0 → (c : ℕ) → c < v .constraints

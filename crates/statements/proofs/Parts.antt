@@ -3,7 +3,7 @@ use mathlib.Core.List.{List, [], _∷_, _++_, List·Memᴰ}
 use mathlib.Core.Logic.{_↔_}
 use mathlib.Core.Option.{some}
 use mathlib.Core.Path.{_≡_}
-use Prim.Native.Nat.{ℕ, zero, suc, _+_, _≤_, _<_}
+use Prim.Native.Nat.{ℕ, zero, suc, _+_, _^_, _≤_, _<_}
 use native.Mathlib.Omega.{arith}
 use lib.IntN.{ℤ}
 use lib.ListN.{length}
@@ -16,7 +16,7 @@ use Rattle.rules_text.specs.Tables.{Reader, found, faulty}
 use Rattle.rules_text.specs.Spelled.{Small, Every, no-more, and-all, together}
 use Rattle.rules_parts.specs.Parts.{readOpening, readInterval}
 use Rattle.rules_parts.specs.Faults.{First}
-use Rattle.rules_parts.specs.Texts.{GivenResource, GivenOpening, GivenOutput, GivenFactor, GivenInterval, openingLines, openingText, openingIs, intervalLines, intervalText, intervalIs, ResourceSmall, OpeningSmall, ResourceFits, OpeningFits, FactorFits, Rising, empty, single, next, IntervalSmall, IntervalFits}
+use Rattle.rules_parts.specs.Texts.{GivenResource, GivenOpening, GivenOutput, GivenFactor, GivenInterval, openingLines, openingText, openingIs, intervalLines, intervalText, intervalIs, ResourceSmall, OpeningSmall, FactorFits, Rising, empty, single, next, IntervalSmall}
 use Rattle.rules_parts.proofs.OpeningBack.{opening-back}
 use Rattle.rules_parts.proofs.IntervalBack.{interval-back}
 use Rattle.rules_parts.proofs.Meaning.{opening-meant, interval-meant}
@@ -35,9 +35,9 @@ SmallResource r =
 abbrev SmallOpening : GivenOpening → Type 0
 SmallOpening o = Twelve (o .month) × ((s : ℤ) → List·Memᴰ s (o .sellers) → Twelve s) × ((r : GivenResource) → List·Memᴰ r (o .resources) → SmallResource r)
 
--- and whose counts are within the rooms
-abbrev Fits : GivenOpening → Type 0
-Fits o = (length (o .sellers) ≤ 16) × (length (o .resources) ≤ 64) × ((r : GivenResource) → List·Memᴰ r (o .resources) → (length (r .steps) ≤ 11) × (length (r .points) ≤ 11))
+-- and so have its ids, which count from 0
+abbrev Ids : GivenOpening → Type 0
+Ids o = (length (o .sellers) ≤ 10 ^ 12) × (length (o .resources) ≤ 10 ^ 12)
 
 -- ---- an interval
 abbrev SmallInterval : GivenInterval → Type 0
@@ -48,8 +48,8 @@ SmallInterval i =
     × Rises (i .factors)
     × ((z : ℤ) → i .parameter ≡ some z → Twelve z)
 
-abbrev FitsInterval : GivenInterval → Type 0
-FitsInterval i = (length (i .shadows) ≤ 32) × (length (i .outputs) ≤ 64)
+abbrev IntervalIds : GivenInterval → Type 0
+IntervalIds i = (length (i .shadows) ≤ 10 ^ 12) × (length (i .outputs) ≤ 10 ^ 12)
 
 -- ---- "the faulty one for 17, the one after the last if the text ends early": of lines before which n others stand, the lines before it can be completed to a part, and with it they can't
 abbrev FirstFaulty : {A : Type 0} → Reader A → ℕ → List Line → ℕ → Type 0
@@ -121,13 +121,6 @@ opening-small o =
       λ h. record { month = h .0; sellers = twelve (o .sellers) .1 (h .1); resources = resources .1 (h .2) },
     )
 
-opening-fits : (o : GivenOpening) → OpeningFits o ↔ (SmallOpening o × Fits o)
-opening-fits o =
-    let rows = each ResourceFits (λ r. (length (r .steps) ≤ 11) × (length (r .points) ≤ 11)) (λ r. ((λ h. (h .steps, h .points)), λ h. record { steps = h .0; points = h .1 })) (o .resources) in (
-      (λ h. (opening-small o .0 (h .small), (h .portfolios, h .resources, rows .0 (h .each)))),
-      λ h. record { small = opening-small o .1 (h .0); portfolios = h .1 .0; resources = h .1 .1; each = rows .1 (h .1 .2) },
-    )
-
 outputs-small : (l : List GivenOutput) → Every (λ x. Every Small (x .lmp ∷ x .dispatch ∷ x .available ∷ x .floor ∷ [])) l
     ↔ ((x : GivenOutput) → List·Memᴰ x l → Twelve (x .lmp) × Twelve (x .dispatch) × Twelve (x .available) × Twelve (x .floor))
 outputs-small l = each _ (λ x. Twelve (x .lmp) × Twelve (x .dispatch) × Twelve (x .available) × Twelve (x .floor)) (λ x. four (x .lmp) (x .dispatch) (x .available) (x .floor)) l
@@ -147,34 +140,26 @@ interval-small i =
       },
     )
 
-interval-fits : (i : GivenInterval) → IntervalFits i ↔ (SmallInterval i × FitsInterval i)
-interval-fits i = (
-  (λ h. (interval-small i .0 (h .small), (h .constraints, h .resources))),
-  λ h. record { small = interval-small i .1 (h .0); constraints = h .1 .0; resources = h .1 .1 },
-)
+-- "A part ends with the last line due to it; what follows belongs to the next": its text is read as its values, whatever its counts, and what follows is left
+pub opening-read : (o : GivenOpening) → SmallOpening o → Ids o → (n : ℕ) (t : List ℕ) → readOpening n (lines (openingText o ++ t)) ≡ found (openingIs o) (n + length (openingLines o)) (lines t)
+opening-read o s f = opening-back o (record { small = opening-small o .1 s; portfolios = f .0; resources = f .1 })
 
--- "A part ends with the last line due to it; what follows belongs to the next": its text is read as its values, and what follows is left
-pub opening-read : (o : GivenOpening) → SmallOpening o → Fits o → (n : ℕ) (t : List ℕ) → readOpening n (lines (openingText o ++ t)) ≡ found (openingIs o) (n + length (openingLines o)) (lines t)
-opening-read o s f = opening-back o (opening-fits o .1 (s, f))
-
-pub interval-read : (i : GivenInterval) → SmallInterval i → FitsInterval i → (n : ℕ) (t : List ℕ)
+pub interval-read : (i : GivenInterval) → SmallInterval i → IntervalIds i → (n : ℕ) (t : List ℕ)
     → readInterval n (lines (intervalText i ++ t)) ≡ found (intervalIs i) (n + length (intervalLines i)) (lines t)
-interval-read i s f = interval-back i (interval-fits i .1 (s, f))
+interval-read i s f = interval-back i (record { small = interval-small i .1 s; constraints = f .0; resources = f .1 })
 
--- whatever is read is such a text, and its values where its counts are within the limits
+-- whatever is read is such a text, and its values, whatever its counts
 pub opening-only : (n : ℕ) (t : List ℕ) (a : Opening) (n' : ℕ) (ls : List Line) → readOpening n (lines t) ≡ found a n' ls
-    → (o : GivenOpening) × SmallOpening o × (t ≡ openingText o ++ together ls) × (Fits o → a ≡ openingIs o)
+    → (o : GivenOpening) × SmallOpening o × (t ≡ openingText o ++ together ls) × (a ≡ openingIs o)
 opening-only n t a n' ls h =
     let m = opening-meant n t a n' ls h in
-    let s = opening-small (m .o) .0 (m .small) in
-    (m .o, s, m .text, λ f. m .value (opening-fits (m .o) .1 (s, f)))
+    (m .o, opening-small (m .o) .0 (m .small), m .text, m .value)
 
 pub interval-only : (n : ℕ) (t : List ℕ) (a : Interval) (n' : ℕ) (ls : List Line) → readInterval n (lines t) ≡ found a n' ls
-    → (i : GivenInterval) × SmallInterval i × (t ≡ intervalText i ++ together ls) × (FitsInterval i → a ≡ intervalIs i)
+    → (i : GivenInterval) × SmallInterval i × (t ≡ intervalText i ++ together ls) × (a ≡ intervalIs i)
 interval-only n t a n' ls h =
     let m = interval-meant n t a n' ls h in
-    let s = interval-small (m .i) .0 (m .small) in
-    (m .i, s, m .text, λ f. m .value (interval-fits (m .i) .1 (s, f)))
+    (m .i, interval-small (m .i) .0 (m .small), m .text, m .value)
 
 first-faulty : {A : Type 0} (r : Reader A) (n : ℕ) (ls : List Line) (line : ℕ) → First r n ls line → FirstFaulty r n ls line
 first-faulty r n ls line f = (f .start, f .left, f .is, f .number, (f .more, f .part, f .whole), f .never)

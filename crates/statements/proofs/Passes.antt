@@ -4,7 +4,7 @@ use mathlib.Core.Logic.{_↔_, _⊎_, inl, inr, ⊎-elim}
 use mathlib.Core.Path.{_≡_, refl, sym, ap, subst, _∙_}
 use Prim.Native.Nat.{ℕ, zero, suc, _≤_, _<_}
 use lib.IntN.{ℤ, pos, _+ℤ_, _-ℤ_, _*ℤ_}
-use lib.ListN.{length, getD}
+use lib.ListN.{length, getD, replicate}
 use lib.Signed.{_≤ℤ_, _<ℤ_}
 use Rattle.rules_number.specs.Order.{minZ, maxZ}
 use Rattle.rules_curve.specs.Curves.{stepsOf, endOf, priceAt, quote}
@@ -15,39 +15,42 @@ use Rattle.rules_mitigation.specs.declared.Mitigated.{Mitigated}
 use Rattle.rules_interval.specs.Conditions.{intervalDemands}
 use Rattle.rules_interval.specs.Intervals.{intervalRefusal}
 use Rattle.rules_interval.specs.declared.Interval.{Interval}
+use Rattle.rules_path.specs.Verdicts.{notBinding}
 use Rattle.rules_opening.specs.Openings.{openingRefusal}
 use Rattle.rules_opening.specs.declared.Opening.{Opening}
 use Rattle.rules_hour.specs.Hours.{curveIn, hourRefusal, hourAfterAll}
 use Rattle.rules_hour.specs.Opened.{openedHour}
 use Rattle.rules_hour.specs.Demand3.{InBid, defaultPrice}
 use Rattle.rules_hour.proofs.AcceptedOpening.{few}
-use Rattle.rules_pass.specs.Passes.{RealTimeHour, openedRealTime, intervalAfter, passRefusal, passAfter, fiveMinuteIn}
+use Rattle.rules_hour.proofs.Demand3.{demand-3 as hour-demand-3}
+use Rattle.rules_pass.specs.Passes.{RealTimeHour, openedRealTime, intervalAfter, passRefusal, passAfter, passVerdicts, fiveMinuteIn}
 use Rattle.rules_pass.specs.Calls.{Request, interval, pass, afterAll, intervalsIn, Progress, noneYet, returned, returnedBy, answersFrom, answers, acceptedIntervals, acceptedPasses}
 use Rattle.rules_pass.proofs.Demand3.{demand-3}
 use Rattle.rules_pass.proofs.FiveMinute.{five-minute}
-use Rattle.rules_pass.proofs.PassStep.{hour-stays, first-pass, pass-by-pass, pass-exactly, nineteen-exactly, accepted-pass-exactly, twelve-never}
+use Rattle.rules_pass.proofs.PassStep.{hour-stays, first-pass, pass-by-pass, pass-exactly, nineteen-exactly, accepted-pass-exactly, twelve-never, refused-pass-judges-nothing, accepted-pass-judged}
 use Rattle.rules_pass.proofs.PassLaws.{passes-leave-the-hour}
 use Rattle.statements.proofs.Told.{and-so, passed}
 use Rattle.statements.proofs.Curves.{Rises, Differ, rises, differ}
-use Rattle.statements.proofs.RefusedCalls.{Resources, Constraints, Limits, Outputs, met-is, number-says}
-use Rattle.statements.proofs.Demand3.{bid, IsComponent, component-is, CapsSay, caps-listed, caps-say, components-say, OwnerSays, owner-says}
+use Rattle.statements.proofs.RefusedCalls.{CallSays, Resources, Constraints, Limits, Outputs, met-is, number-says}
+use Rattle.statements.proofs.Demand3.{bid, IsComponent, component-is, CapsSay, caps-listed, caps-say, components-say, OwnerSays, owner-says, Accepted, accepted-are}
+use Rattle.statements.proofs.Hours.{hourAt, JudgedSays, verdict-says, call-hands-back}
 
 -- ---- the calls
 -- the numbers that they return, in order: "Each call gets the hour as the call before it left it"
-abbrev numbers : RealTimeHour → List Request → List ℕ
+abbrev pub numbers : RealTimeHour → List Request → List ℕ
 numbers h [] = []
 numbers h (interval v ∷ calls) = hourRefusal (h .hour) v ∷ numbers (intervalAfter h v) calls
 numbers h (pass v ∷ calls) = passRefusal h v ∷ numbers (passAfter h v) calls
 
 -- the intervals that return 0, and the passes that return 0 after the last of them; some are taken already
-abbrev intervalsWith : List Interval → List Request → List ℕ → List Interval
+abbrev pub intervalsWith : List Interval → List Request → List ℕ → List Interval
 intervalsWith taken [] l = taken
 intervalsWith taken (c ∷ calls) [] = taken
 intervalsWith taken (interval v ∷ calls) (zero ∷ l) = intervalsWith (taken ++ (v ∷ [])) calls l
 intervalsWith taken (interval v ∷ calls) (suc n ∷ l) = intervalsWith taken calls l
 intervalsWith taken (pass v ∷ calls) (x ∷ l) = intervalsWith taken calls l
 
-abbrev passesWith : List Interval → List Request → List ℕ → List Interval
+abbrev pub passesWith : List Interval → List Request → List ℕ → List Interval
 passesWith taken [] l = taken
 passesWith taken (c ∷ calls) [] = taken
 passesWith taken (interval v ∷ calls) (zero ∷ l) = passesWith [] calls l
@@ -70,6 +73,25 @@ abbrev pub then : List Request → Request → List Request
 then calls c = calls ++ (c ∷ [])
 
 -- ---- "A five-minute price is the least of that interval's price and the caps of its accepted passes with a cut, for every list of passes."
+-- of an hour that accepted intervals I and, since the last of them, passes P, the hourly and the five-minute curve of resource r
+module _ (o : Opening) (r : ℕ) (I P : List Interval) (hourly fives : Mitigated) where
+  pub record FiveMinutes : Type 0 where
+    pub C : Interval → ℤ
+    pub component : (v : Interval) → List·Memᴰ v P → IsComponent o v r (C v)
+    pub prices : (q : ℕ) → bid o r .start ≤ q → q < endOf (bid o r .start) (stepsOf (bid o r))
+        → (before : ℤ) × (price : ℤ) × (quote (hourly .start) (usedSteps hourly) q ≡ answer.Price before) × (quote (fives .start) (usedSteps fives) q ≡ answer.Price price)
+        × CapsSay o r P C q before price
+    pub starts : fives .start ≡ bid o r .start
+    pub ends : endOf (fives .start) (usedSteps fives) ≡ endOf (bid o r .start) (stepsOf (bid o r))
+    pub merged : Rises (fives .start) (usedSteps fives) × Differ (usedSteps fives)
+    -- no other curve has these prices
+    pub only : (l : List Step) → Rises (bid o r .start) l → endOf (bid o r .start) l ≡ endOf (bid o r .start) (stepsOf (bid o r)) → Differ l
+        → ((q : ℕ) → bid o r .start ≤ q → q < endOf (bid o r .start) (stepsOf (bid o r)) → CapsSay o r P C q (priceAt (usedSteps hourly) q) (priceAt l q))
+        → l ≡ usedSteps fives
+    pub twenty-steps : fives .count ≤ 20
+    pub up-to-three : length P ≤ 3
+    pub follow : I ≡ [] → P ≡ []
+
 module _ (o : Opening) (calls : List Request) (r : ℕ) where
   abbrev pub hourly : Mitigated
   hourly = curveIn (hour o calls .hour) r
@@ -77,22 +99,8 @@ module _ (o : Opening) (calls : List Request) (r : ℕ) where
   abbrev pub fives : Mitigated
   fives = fiveMinuteIn (hour o calls) r
 
-  pub record FiveMinuteSays : Type 0 where
-    pub C : Interval → ℤ
-    pub component : (v : Interval) → List·Memᴰ v (Passes o calls) → IsComponent o v r (C v)
-    pub prices : (q : ℕ) → bid o r .start ≤ q → q < endOf (bid o r .start) (stepsOf (bid o r))
-        → (before : ℤ) × (price : ℤ) × (quote (hourly .start) (usedSteps hourly) q ≡ answer.Price before) × (quote (fives .start) (usedSteps fives) q ≡ answer.Price price)
-        × CapsSay o r (Passes o calls) C q before price
-    pub starts : fives .start ≡ bid o r .start
-    pub ends : endOf (fives .start) (usedSteps fives) ≡ endOf (bid o r .start) (stepsOf (bid o r))
-    pub merged : Rises (fives .start) (usedSteps fives) × Differ (usedSteps fives)
-    -- no other curve has these prices
-    pub only : (l : List Step) → Rises (bid o r .start) l → endOf (bid o r .start) l ≡ endOf (bid o r .start) (stepsOf (bid o r)) → Differ l
-        → ((q : ℕ) → bid o r .start ≤ q → q < endOf (bid o r .start) (stepsOf (bid o r)) → CapsSay o r (Passes o calls) C q (priceAt (usedSteps hourly) q) (priceAt l q))
-        → l ≡ usedSteps fives
-    pub twenty-steps : fives .count ≤ 20
-    pub up-to-three : length (Passes o calls) ≤ 3
-    pub follow : Intervals o calls ≡ [] → Passes o calls ≡ []
+  abbrev pub FiveMinuteSays : Type 0
+  FiveMinuteSays = FiveMinutes o r (Intervals o calls) (Passes o calls) hourly fives
 
 -- ---- a pass: "19, no interval accepted yet or three passes accepted since the last, tested before 13; 12 never applies to a pass"
 -- a intervals are accepted before it, p passes since the last, and i is the number of its own values
@@ -110,6 +118,9 @@ module _ (o : Opening) (calls : List Request) (v : Interval) where
     pub told : PassSays (length (Intervals o calls)) (length (Passes o calls)) (intervalRefusal (o .resources) v) number
     pub accepted : (number ≡ 0)
         ↔ ((0 < length (Intervals o calls)) × (length (Passes o calls) < 3) × (Resources (o .resources) v × (Constraints (o .resources) v × (Limits (o .resources) v × Outputs (o .resources) v))))
+    -- an accepted pass hands back a verdict on each of its constraints, as an interval does, and a refused one none
+    pub verdicts : number ≡ 0 → (c : ℕ) → c < v .constraints → JudgedSays o v c (getD (passVerdicts (hour o calls) v) c notBinding)
+    pub no-verdicts : (n : ℕ) → number ≡ suc n → passVerdicts (hour o calls) v ≡ replicate 32 notBinding
     -- a refusal changes nothing, and no pass alters the hour
     pub refused : (n : ℕ) → number ≡ suc n → hour o (then calls (pass v)) ≡ hour o calls
     pub hours : hour o (then calls (pass v)) .hour ≡ hour o calls .hour
@@ -128,7 +139,7 @@ module _ (o : Opening) (calls : List Request) (v : Interval) where
       pub stays : (C : ℤ) → IsComponent o v r C → (getD (v .dispatch) r (pos 0) ≤ℤ pos 0) ⊎ (C ≤ℤ pos 0) → now (fives o (then calls (pass v)) r) ≡ now (fives o calls r)
 
 -- ---- from the theorems
-numbers-are : (h : RealTimeHour) (calls : List Request) → answersFrom h calls ≡ numbers h calls
+pub numbers-are : (h : RealTimeHour) (calls : List Request) → answersFrom h calls ≡ numbers h calls
 unfolding answersFrom
 numbers-are h [] = refl
 numbers-are h (interval v ∷ calls) = ap (λ (l : List ℕ). hourRefusal (h .hour) v ∷ l) (numbers-are (intervalAfter h v) calls)
@@ -165,6 +176,14 @@ module _ (o : Opening) (opened : openingRefusal o ≡ 0) (calls : List Request) 
   pub passes-apart : hour o calls .hour ≡ hourAfterAll (openedHour o) (intervalsIn calls)
   unfolding openedRealTime
   passes-apart = passes-leave-the-hour calls (openedRealTime o)
+
+  -- an interval call among passes: 12 counts the accepted intervals before it, wherever passes stand
+  pub interval-among : (v : Interval)
+      → CallSays (length (Intervals o calls)) (intervalRefusal (o .resources) v) (hourRefusal (hour o calls .hour) v) × ((hourRefusal (hour o calls .hour) v ≡ 12) ↔ (length (Intervals o calls) ≡ 4))
+  interval-among v =
+      let b = call-hands-back o opened (intervalsIn calls) v in
+      let same : Accepted o (intervalsIn calls) ≡ Intervals o calls = sym (accepted-are o (intervalsIn calls) 0 (hour-demand-3 o (intervalsIn calls) 0 opened (few o opened .1))) ∙ intervals-are in
+      rw (passes-apart, ← same) (b .number, b .twelve)
 
   pub five-minute-price : (r : ℕ) → r < o .resources → FiveMinuteSays o calls r
   five-minute-price r l =
@@ -218,6 +237,8 @@ module _ (o : Opening) (opened : openingRefusal o ≡ 0) (calls : List Request) 
             subst (λ (A : List Interval). (number o calls v ≡ 0) ↔ ((0 < length (Intervals o calls)) × (length A < 3) × (Resources n v × (Constraints n v × (Limits n v × Outputs n v))))) passes-are
             (subst (λ (A : List Interval). (number o calls v ≡ 0) ↔ ((0 < length A) × (length (acceptedPasses o calls) < 3) × (Resources n v × (Constraints n v × (Limits n v × Outputs n v))))) intervals-are
             (and-so (accepted-pass-exactly o calls opened v) ((λ x. (x .0, x .1, met-is n v (few o opened .2) .0 (x .2))), λ x. (x .0, x .1, met-is n v (few o opened .2) .1 (x .2)))));
+        verdicts = λ e c l. verdict-says o v c _ (accepted-pass-judged o opened calls v e c l);
+        no-verdicts = refused-pass-judges-nothing (hour o calls) v;
         refused = step .refused;
         hours = hour-stays o calls v;
       }

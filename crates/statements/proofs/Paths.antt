@@ -10,7 +10,6 @@ use lib.Dec.{eqb}
 use lib.IntN.{ℤ, pos, negsuc, negℤ}
 use lib.ListN.{length, getD}
 use lib.Signed.{_≤ℤ_, _<ℤ_}
-use Rattle.rules_number.specs.Order.{natOf}
 use Rattle.rules_number.specs.Over.{sumTo}
 use Rattle.rules_number.proofs.Kit.{lt-of}
 use Rattle.rules_number.proofs.OverLaws.{tested}
@@ -27,6 +26,7 @@ use Rattle.rules_path.proofs.BitLaws.{bit-zero}
 use Rattle.rules_path.proofs.TopLaws.{On}
 use Rattle.rules_path.proofs.PathVerdict as rules
 use Rattle.statements.proofs.Told.{and-so}
+use Rattle.statements.proofs.Plain.{Sum, Whole}
 
 -- "A resource's effectiveness e is -s where its shift factor s is below 0, else 0."
 pub effective : (s : ℤ) → (s <ℤ pos 0 → pos (effectiveness s) ≡ negℤ s) × (pos 0 ≤ℤ s → effectiveness s ≡ 0)
@@ -36,14 +36,14 @@ effective (negsuc s) = ((λ h. refl), λ h. absurd (h .le))
 module _ (d : Path) where
   -- "Demand is the sum of e × dispatch over all resources. Supply is the sum of e × available."
   abbrev pub Demand : ℕ
-  Demand = sumTo (λ r. effectiveness (d .factor r) * d .dispatch r) (d .resources)
+  Demand = Sum (λ r. effectiveness (d .factor r) * d .dispatch r) (d .resources)
 
   abbrev pub Supply : ℕ
-  Supply = sumTo (λ r. effectiveness (d .factor r) * d .available r) (d .resources)
+  Supply = Sum (λ r. effectiveness (d .factor r) * d .available r) (d .resources)
 
   -- "a portfolio can withhold the sum of e × (available - floor) over its resources"
   abbrev pub Withholdable : ℕ → ℕ
-  Withholdable p = sumTo (λ r. cond (eqb (d .portfolio r) p) (effectiveness (d .factor r) * (d .available r - d .floor r)) 0) (d .resources)
+  Withholdable p = Sum (λ r. cond (eqb (d .portfolio r) p) (effectiveness (d .factor r) * (d .available r - d .floor r)) 0) (d .resources)
 
   -- "Seller 1 marks a net seller"
   abbrev pub IsSeller : ℕ → Type 0
@@ -60,7 +60,7 @@ pub record Choice (d : Path) : Type 0 where
   pub distinct : (i j : ℕ) → i < j → j < count → who i ≡ who j → ⊥
 
 abbrev pub Withholds : {d : Path} → Choice d → ℕ
-Withholds c = sumTo (c .amount) (c .count)
+Withholds c = Sum (c .amount) (c .count)
 
 -- bit p of a number
 abbrev pub Bit : ℕ → ℕ → ℕ
@@ -102,9 +102,9 @@ pub record JudgedOn (m : Market) (v : Interval) (c : ℕ) : Type 0 where
   pub shadow : pathIn m v c .shadow ≡ getD (v .shadow) c (pos 0)
   pub resources : pathIn m v c .resources ≡ m .resources
   pub factor : (r : ℕ) → pathIn m v c .factor r ≡ getD (v .factors) (r * 32 + c) (pos 0)
-  pub dispatch : (r : ℕ) → pathIn m v c .dispatch r ≡ natOf (getD (v .dispatch) r (pos 0))
-  pub available : (r : ℕ) → pathIn m v c .available r ≡ natOf (getD (v .available) r (pos 0))
-  pub floor : (r : ℕ) → pathIn m v c .floor r ≡ natOf (getD (v .floor) r (pos 0))
+  pub dispatch : (r : ℕ) → pathIn m v c .dispatch r ≡ Whole (getD (v .dispatch) r (pos 0))
+  pub available : (r : ℕ) → pathIn m v c .available r ≡ Whole (getD (v .available) r (pos 0))
+  pub floor : (r : ℕ) → pathIn m v c .floor r ≡ Whole (getD (v .floor) r (pos 0))
   pub portfolio : (r : ℕ) → pathIn m v c .portfolio r ≡ getD (m .portfolio) r 0
   pub seller : (p : ℕ) → pathIn m v c .seller p ≡ getD (m .seller) p 0
 
@@ -130,13 +130,12 @@ whoAt l i = getD l i nobody .who
 abbrev pub amountAt : List Withheld → ℕ → ℕ
 amountAt l i = getD l i nobody .amount
 
-sum-front : (f : ℕ → ℕ) (n : ℕ) → sumTo f (suc n) ≡ f 0 + sumTo (λ i. f (suc i)) n
-unfolding sumTo
+sum-front : (f : ℕ → ℕ) (n : ℕ) → Sum f (suc n) ≡ f 0 + Sum (λ i. f (suc i)) n
 sum-front f zero = omega arith
 sum-front f (suc n) = omega (arith, sum-front f n)
 
-total-is : (l : List Withheld) → total l ≡ sumTo (amountAt l) (length l)
-unfolding total sumTo
+total-is : (l : List Withheld) → total l ≡ Sum (amountAt l) (length l)
+unfolding total
 total-is [] = refl
 total-is (x ∷ l) = ap (λ (n : ℕ). x .amount + n) (total-is l) ∙ sym (sum-front (amountAt (x ∷ l)) (length l))
 
@@ -148,7 +147,7 @@ absent-at p (x ∷ l) a (suc i) h e = absent-at p l (a .1) i (omega arith) e
 
 module _ (d : Path) where
   seller-at : (l : List Withheld) → Possible d l → (i : ℕ) → i < length l → IsSeller d (whoAt l i) × (amountAt l i ≤ Withholdable d (whoAt l i))
-  unfolding Possible withholdable share
+  unfolding Possible withholdable share sumTo
   seller-at [] h i k = absurd (omega arith)
   seller-at (x ∷ l) h zero k = (h .0, h .1)
   seller-at (x ∷ l) h (suc i) k = seller-at l (h .3) i (omega arith)
@@ -179,8 +178,8 @@ pub from-length : (k : ℕ) (w a : ℕ → ℕ) → length (listFrom k w a) ≡ 
 from-length zero w a = refl
 from-length (suc k) w a = ap suc (from-length k (λ i. w (suc i)) (λ i. a (suc i)))
 
-from-total : (k : ℕ) (w a : ℕ → ℕ) → total (listFrom k w a) ≡ sumTo a k
-unfolding total sumTo
+from-total : (k : ℕ) (w a : ℕ → ℕ) → total (listFrom k w a) ≡ Sum a k
+unfolding total
 from-total zero w a = refl
 from-total (suc k) w a = ap (λ (n : ℕ). a 0 + n) (from-total k (λ i. w (suc i)) (λ i. a (suc i))) ∙ sym (sum-front a k)
 
@@ -192,7 +191,7 @@ from-absent p (suc k) w a h = (h 0 (omega arith), from-absent p k (λ i. w (suc 
 module _ (d : Path) where
   from-possible : (k : ℕ) (w a : ℕ → ℕ) → ((i : ℕ) → i < k → IsSeller d (w i)) → ((i : ℕ) → i < k → a i ≤ Withholdable d (w i)) → ((i j : ℕ) → i < j → j < k → w i ≡ w j → ⊥)
       → Possible d (listFrom k w a)
-  unfolding Possible withholdable share
+  unfolding Possible withholdable share sumTo
   from-possible zero w a s u h = tt
   from-possible (suc k) w a s u h = (
     s 0 (omega arith),
@@ -221,7 +220,7 @@ module _ (d : Path) where
   Short = (c : Choice d) × (Supply d < Demand d + Withholds c)
 
   non-competitive-is : NonCompetitive d ↔ ((pos 0 <ℤ d .shadow) × Short)
-  unfolding supply demand chosen
+  unfolding supply demand chosen sumTo
   non-competitive-is = (
     (λ h. (h .binding, (chosen d (h .choice) (h .few) (h .possible), rw (← total-is (h .choice)) (h .below)))),
     λ h. record { binding = h .0; choice = listOf (h .1 .0); few = list-few (h .1 .0); possible = list-possible (h .1 .0); below = rw (list-total (h .1 .0)) (h .1 .1) },
@@ -237,7 +236,7 @@ module _ (d : Path) where
   -- the verdict on a constraint that binds, and on one that doesn't
   module _ (binding : pos 0 <ℤ d .shadow) where
     demand-is : verdictOf d .demand ≡ Demand d
-    unfolding verdictOf demand
+    unfolding verdictOf demand sumTo
     demand-is = rw (above-exactly (d .shadow) .1 binding)
 
     left-is : verdictOf d .left ≡ left d
@@ -268,7 +267,7 @@ module _ (d : Path) where
   on-back p (y ∷ l) x m e = ⊎-elim (λ s. inl (ap (λ (z : Withheld). z .who) (sym s) ∙ e)) (λ n. inr (on-back p l x n e)) (List·Memᴰ·cases-cons m)
 
   pub verdict-says : VerdictSays d (verdictOf d)
-  unfolding supply withholdable share chosen ones
+  unfolding supply withholdable share chosen ones sumTo
   verdict-says = record {
     none = nothing;
     demand = demand-is;

@@ -15,7 +15,7 @@ use Rattle.rules_mitigation.specs.Mitigation.{usedSteps}
 use Rattle.rules_interval.specs.Intervals.{intervalRefusal}
 use Rattle.rules_interval.specs.declared.Interval.{Interval}
 use Rattle.rules_path.specs.Judgements.{pathIn, verdictsOf}
-use Rattle.rules_path.specs.Verdicts.{verdictOf, findingNumber}
+use Rattle.rules_path.specs.Verdicts.{verdictOf}
 use Rattle.rules_path.specs.declared.Market.{Market}
 use Rattle.rules_opening.specs.Openings.{openingRefusal, marketOf}
 use Rattle.rules_opening.specs.declared.Opening.{Opening}
@@ -23,9 +23,9 @@ use Rattle.rules_hour.specs.Hours.{Hour, curveIn, hourRefusal, hourAfter, hourA
 use Rattle.rules_hour.specs.Opened.{openedHour}
 use Rattle.rules_hour.specs.Demand3.{InBid, caps, Demand3}
 use Rattle.rules_hour.proofs.AcceptedOpening.{few}
-use Rattle.rules_text.specs.Numbers.{Line, Row, bytes, lines}
+use Rattle.rules_text.specs.Numbers.{Line, Row, lines}
 use Rattle.rules_text.specs.Tables.{found}
-use Rattle.rules_text.specs.Printing.{lineText, tableText, refusalText}
+use Rattle.rules_text.specs.Printing.{tableText, refusalText}
 use Rattle.rules_text.specs.Spelled.{together}
 use Rattle.rules_parts.specs.Parts.{readOpening, readInterval}
 use Rattle.rules_page.proofs.StepBound.{StepFew, steps-few}
@@ -35,6 +35,7 @@ use Rattle.rules_run.specs.Run.{endOf as endOfRun}
 use Rattle.rules_run.proofs.Meaning.{five-suffice, page-of-list}
 use Rattle.rules_run.proofs.SoFar.{Accepts, text-so-far}
 use Rattle.rules_run.proofs.Program.{Demanded, TheCurve, Page, Prints, Program, refused, printed, program}
+use Rattle.statements.proofs.Plain.{Found, Listed, Joined, Ascii, LineOf, TableOf, line-is, table-is}
 use Rattle.statements.proofs.Sellers.{SellersSay, sellers-say}
 use Rattle.statements.proofs.Texts.{each}
 use Rattle.statements.proofs.Curves.{Rises, Differ, rises, differ}
@@ -73,22 +74,22 @@ pub record PageSays (o : Opening) (before : List Interval) (v : Interval) (page 
   pub verdicts : hourVerdicts (hourAt o before) v ≡ verdictsOf (marketOf o) v
   pub judged : (c : ℕ) → c < v .constraints → JudgedSays o v c (verdictOf (pathIn (marketOf o) v c))
   pub tables : page
-      ≡ (bytes "interval constraint verdict demand left\n"
-      ++ (tableText (suc (length before)) 0 (listed (λ c. let x = verdictOf (pathIn (marketOf o) v c) in (pos (findingNumber (x .finding)) ∷ pos (x .demand) ∷ pos (x .left) ∷ []) ∷ []) (v .constraints))
-      ++ (bytes "interval constraint portfolio withheld\n" ++ tableText (suc (length before)) 0 (listed sellers (v .constraints)))))
-      ++ (bytes "interval resource end price\n" ++ tableText (suc (length before)) 0 (listed (λ r. map (λ s. pos (s .end) ∷ s .price ∷ []) (steps r)) (o .resources)))
+      ≡ (Ascii "interval constraint verdict demand left\n"
+      ++ (TableOf (suc (length before)) 0 (Listed (λ c. let x = verdictOf (pathIn (marketOf o) v c) in (pos (Found (x .finding)) ∷ pos (x .demand) ∷ pos (x .left) ∷ []) ∷ []) (v .constraints))
+      ++ (Ascii "interval constraint portfolio withheld\n" ++ TableOf (suc (length before)) 0 (Listed sellers (v .constraints)))))
+      ++ (Ascii "interval resource end price\n" ++ TableOf (suc (length before)) 0 (Listed (λ r. map (λ s. pos (s .end) ∷ s .price ∷ []) (steps r)) (o .resources)))
 
 -- the lines of a refusal
 abbrev refusal : ℕ → ℕ → List ℕ
-refusal number line = bytes "refusal line\n" ++ lineText (pos number ∷ pos line ∷ [])
+refusal number line = Ascii "refusal line\n" ++ LineOf (pos number ∷ pos line ∷ [])
 
 -- a page for each call, and the lines of the refusal if there is one
 pub record PrintsSay (text : List ℕ) (o : Opening) (calls : List Interval) : Type 0 where
   pub pages : List (List ℕ)
   pub count : length pages ≡ length calls
   pub page : (before : List Interval) (v : Interval) (after : List Interval) → calls ≡ before ++ (v ∷ after) → PageSays o before v (getD pages (length before) [])
-  pub whole : endOfRun text .number ≡ 0 → output text ≡ together pages
-  pub refused-later : 0 < endOfRun text .number → output text ≡ together pages ++ refusal (endOfRun text .number) (endOfRun text .line)
+  pub whole : endOfRun text .number ≡ 0 → output text ≡ Joined pages
+  pub refused-later : 0 < endOfRun text .number → output text ≡ Joined pages ++ refusal (endOfRun text .number) (endOfRun text .line)
 
 -- a text is refused before an hour is opened and has no page, or begins with an opening and calls, all accepted, and has a page for each call
 abbrev ProgramSays : List ℕ → Type 0
@@ -129,7 +130,12 @@ one-curve o opened calls r steps t =
       only = λ others. ((λ e. rw e (m steps .0 (t .demanded))), λ h. t .only others (m others .1 h));
     }
 
+own-refusal : (number line : ℕ) → refusalText number line ≡ refusal number line
+unfolding refusalText
+own-refusal number line = ap (λ (t : List ℕ). Ascii "refusal line\n" ++ t) (line-is (pos number ∷ pos line ∷ []))
+
 page-says : (o : Opening) → openingRefusal o ≡ 0 → (before : List Interval) (v : Interval) (page : List ℕ) → Page o before v page → PageSays o before v page
+unfolding listed Listed
 page-says o opened before v page p = record {
   at-most-four = p .number;
   steps = p .steps;
@@ -138,11 +144,11 @@ page-says o opened before v page p = record {
   named = λ c l. sellers-say (pathIn (marketOf o) v c) (p .tables .sellers c) (p .tables .named c l);
   verdicts = p .verdicts;
   judged = λ c l. verdict-says o v c _ (p .judged c l);
-  tables = p .tables .is;
+  tables = simp table-is at (p .tables .is);
 }
 
 prints-say : (text : List ℕ) (o : Opening) (calls : List Interval) → openingRefusal o ≡ 0 → Prints text o calls → PrintsSay text o calls
-unfolding refusalText
+unfolding together Joined
 prints-say text o calls opened p = record {
   pages = p .pages;
   count = p .count;
@@ -151,16 +157,15 @@ prints-say text o calls opened p = record {
   refused-later = λ h. p .prints ∙ ap (λ (t : List ℕ). together (p .pages) ++ t) (last (endOfRun text .number) h);
 }
   where
-    last : (n : ℕ) → 0 < n → lastLines n (endOfRun text .line) ≡ refusalText n (endOfRun text .line)
+    last : (n : ℕ) → 0 < n → lastLines n (endOfRun text .line) ≡ refusal n (endOfRun text .line)
     last zero h = absurd (omega arith)
-    last (suc n) h = refl
+    last (suc n) h = own-refusal (suc n) (endOfRun text .line)
 
 pub program-says : (text : List ℕ) → ProgramSays text
-unfolding refusalText
 program-says text = go (program text)
   where
     go : Program text → ProgramSays text
-    go (refused some p) = inl (some, p)
+    go (refused some p) = inl (some, p ∙ own-refusal (endOfRun text .number) (endOfRun text .line))
     go (printed o calls own rest is a p) = inr (o, calls, own, rest, is, opens o calls own .0 a, prints-say text o calls (a .accepted) p)
 
 -- ---- page by page: "Each accepted interval .. prints its three tables .. before the next is read"

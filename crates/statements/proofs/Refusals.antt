@@ -6,7 +6,7 @@ use Prim.Native.Nat.{ℕ, zero, suc, _-_, _*_, _/_, _≤_, _<_}
 use lib.IntN.{ℤ, pos, negℤ, _-ℤ_, _*ℤ_}
 use lib.ListN.{length, getD}
 use lib.Signed.{_≤ℤ_, _<ℤ_}
-use Rattle.rules_number.specs.Order.{minZ, maxZ, natOf}
+use Rattle.rules_number.specs.Order.{minZ, maxZ}
 use Rattle.rules_curve.specs.Demands.{First}
 use Rattle.rules_curve.specs.Conditions as rules
 use Rattle.rules_curve.specs.Conditions.{Counted, Edged, Priced, BidPriced, DefaultPriced}
@@ -18,6 +18,7 @@ use Rattle.rules_cost.specs.Costs.{costRefusal}
 use Rattle.rules_cost.proofs.Exactly.{cost-exactly}
 use Rattle.rules_cost.specs.declared.Costs.{Costs}
 use Rattle.statements.proofs.Told.{_says_, Item, demands, told, taken, only}
+use Rattle.statements.proofs.Plain.{Whole}
 
 -- x is lo to hi
 abbrev pub Within : ℤ → ℤ → ℤ → Type 0
@@ -45,14 +46,14 @@ module _ (c : RawCurve) where
   Prices low top = ((i : ℕ) → i < c .count → Within low top (price i)) × ((i : ℕ) → suc i < c .count → price i ≤ℤ price (suc i))
 
   -- "A bid price is at least -1,500,000 and at most 5,000,000 in months 1 to 12 since the rule took effect, 7,500,000 in months 13 to 24, 10,000,000 from month 25"
-  abbrev BidPrices : ℕ → Type 0
+  abbrev pub BidPrices : ℕ → Type 0
   BidPrices month =
       (month ≤ 12 → Prices (negℤ (pos 1500000)) (pos 5000000))
       × (13 ≤ month → month ≤ 24 → Prices (negℤ (pos 1500000)) (pos 7500000))
       × (25 ≤ month → Prices (negℤ (pos 1500000)) (pos 10000000))
 
   -- "A default curve, from a pack or from costs, allows prices of -1,000,000,000 to 1,000,000,000"
-  abbrev DefaultPrices : Type 0
+  abbrev pub DefaultPrices : Type 0
   DefaultPrices = Prices (negℤ (pos 1000000000)) (pos 1000000000)
 
 -- "the lowest applicable number wins"; 0 stands for none
@@ -101,7 +102,7 @@ module _ (c : Costs) where
 
   -- "k, which is 4 × PMax / 5 rounded down, where k lies strictly inside" the segment i
   abbrev pub k : ℤ
-  k = pos (4 * natOf PMax / 5)
+  k = pos (4 * Whole PMax / 5)
 
   abbrev pub Across : ℕ → Type 0
   Across i = (m i <ℤ k) × (k <ℤ m (suc i))

@@ -1,12 +1,13 @@
 -- Paper 01, Refused, by place: "Opening checks 9, then 10, then each resource in number order: bid, costs (or the pack's curve), 11". Assumes nothing.
 use mathlib.Core.List.{List, [], _∷_, _++_}
 use mathlib.Core.Logic.{_⊎_, inl, inr, ⊎-elim, _↔_}
-use mathlib.Core.Path.{_≡_, refl, subst}
+use mathlib.Core.Path.{_≡_, refl, sym, subst, _∙_}
 use Prim.Native.Nat.{ℕ, _≤_, _<_}
 use native.Mathlib.Omega.{arith}
 use lib.IntN.{pos, natAbs}
 use lib.ListN.{length, getD}
 use lib.Signed.{_≤ℤ_, _<ℤ_}
+use Rattle.rules_number.proofs.OverLaws.{le-or-lt}
 use Rattle.rules_curve.specs.Demands.{Demand, _asks_, First, eachOf}
 use Rattle.rules_curve.proofs.FirstLaws.{none-exactly}
 use Rattle.rules_curve.specs.Conditions.{bidDemands, defaultDemands}
@@ -39,7 +40,7 @@ pub record ResourceSays (b s : ℕ) (inside : Type 0) (r : ℕ) : Type 0 where
 
 -- ---- an opening
 module _ (o : Opening) where
-  abbrev resource : ℕ → Resource
+  abbrev pub resource : ℕ → Resource
   resource k = getD (o .list) k noResource
 
   -- the number of resource k, in the opening's month
@@ -181,7 +182,7 @@ module _ (o : Opening) (full : (k : ℕ) → k < o .resources → (length (resou
   from-ten = (10 asks Known o) ∷ of-each
 
   exactly : (n : ℕ) → (openingRefusal o ≡ n) ↔ First n ((9 asks Limited o) ∷ from-ten)
-  exactly n = opening-exactly o held-each n
+  exactly n = opening-exactly o (λ k l low. held-each k l) n
 
   each-exactly : (k : ℕ) → k < o .resources → (n : ℕ) → (number o k ≡ n) ↔ First n (of-one k)
   each-exactly k l n = resource-exactly (natAbs (o .month)) (resource o k) (held-each k l) n
@@ -205,10 +206,24 @@ module _ (o : Opening) (full : (k : ℕ) → k < o .resources → (length (resou
   past-ten : {R : Type 0} (n : ℕ) → (n ≡ 9 → ⊥) → (n ≡ 10 → ⊥) → First n of-each ↔ R → (openingRefusal o ≡ n) ↔ (Counts o × (Members o × R))
   past-ten n other too rest = past-nine n other (passed n 10 of-each members-are too rest)
 
-  pub opening : OpeningSays o (openingRefusal o)
-  opening = record {
+  within : OpeningSays o (openingRefusal o)
+  within = record {
     nine = and-so (exactly 9) (stopped 9 9 from-ten counts-are refl (omega arith) not-nine);
     ten = past-nine 10 (λ e. omega arith) (stopped 10 10 of-each members-are refl (omega arith) (unsaid 10 (omega arith) (omega arith)));
     others = λ n some nine ten. past-ten n nine ten (one n some);
     none = past-ten 0 (λ e. omega arith) (λ e. omega arith) (each-met of-one (number o) (o .resources) each-exactly);
   }
+
+-- what is read of an opening, at most 64 resources, holds its curves in arrays of eleven steps
+module _ (o : Opening) (full : (k : ℕ) → k < o .resources → k < 64 → (length (resource o k .bid .steps) ≡ 11) × (length (resource o k .pack .steps) ≡ 11)) where
+  over : 64 < o .resources → OpeningSays o (openingRefusal o)
+  over h =
+      let said : openingRefusal o ≡ 9 = opening-exactly o (λ k l low. held (natAbs (o .month)) (resource o k) (full k l low)) 9 .1 (inr ((λ lim. omega (arith, lim .resources .1)), refl, omega arith)) in record {
+        nine = ((λ e c. omega (arith, c .4)), λ n. said);
+        ten = ((λ e. absurd (omega arith)), λ x. absurd (omega (arith, x .0 .4)));
+        others = λ n some nine ten. ((λ e. absurd (nine (sym e ∙ said))), λ x. absurd (omega (arith, x .0 .4)));
+        none = ((λ e. absurd (omega arith)), λ x. absurd (omega (arith, x .0 .4)));
+      }
+
+  pub opening : OpeningSays o (openingRefusal o)
+  opening = ⊎-elim (λ h. within o (λ k l. full k l (omega arith))) over (le-or-lt (o .resources) 64)

@@ -10,9 +10,9 @@ use Rattle.rules_opening.specs.Openings.{openingRefusal}
 use Rattle.rules_opening.specs.declared.Opening.{Opening}
 use Rattle.rules_hour.specs.Hours.{Hour, hourRefusal, hourAfter, hourAfterAll}
 use Rattle.rules_hour.specs.Opened.{openedHour}
-use Rattle.rules_text.specs.Numbers.{Line, bytes, lines}
+use Rattle.rules_text.specs.Numbers.{Line, lines}
 use Rattle.rules_text.specs.Tables.{faulty, found}
-use Rattle.rules_text.specs.Printing.{lineText, refusalText}
+use Rattle.rules_text.specs.Printing.{refusalText}
 use Rattle.rules_parts.specs.Parts.{readOpening, readInterval}
 use Rattle.rules_run.specs.Run.{partsText, output, endOf}
 use Rattle.rules_run.proofs.Meaning.{others-read}
@@ -21,6 +21,7 @@ use Rattle.rules_run.proofs.OwnLines.{Accepted}
 use Rattle.rules_run.proofs.RefusedLine.{Intervals, none, one, Parts, Unread, in-opening, in-interval, Refuses, opening, interval, seventeen-exactly, seventeen-first, value-line, none-exactly, end-few}
 use Rattle.rules_run.proofs.LastLines.{last-lines-exactly, eighteen-printed}
 use Rattle.statements.proofs.Told.{and-so}
+use Rattle.statements.proofs.Plain.{Ascii, LineOf, line-is}
 
 -- ---- the parts of a text
 -- lines ls, before which n stand, begin with the parts of these calls on the hour h, each accepted, and m lines stand before the rest
@@ -78,8 +79,8 @@ pub record TextSays (text : List ℕ) : Type 0 where
   pub no-other : (endOf text .number ≤ 18) × (endOf text .line ≤ 65537)
   -- "On refusal the program prints the line `refusal line`, then a line of the two values .. and stops."
   pub printed-last : (number line : ℕ) → 0 < number → number < 1000000000000 → line < 1000000000000
-      → EndsWith text number line ↔ ((before : List ℕ) × (output text ≡ before ++ (bytes "refusal line\n" ++ lineText (pos number ∷ pos line ∷ []))))
-  pub eighteen-is-printed : (output text ≡ bytes "refusal line\n18 1\n") ↔ (65536 < length text)
+      → EndsWith text number line ↔ ((before : List ℕ) × (output text ≡ before ++ (Ascii "refusal line\n" ++ LineOf (pos number ∷ pos line ∷ []))))
+  pub eighteen-is-printed : (output text ≡ Ascii "refusal line\n18 1\n") ↔ (65536 < length text)
   -- a text of at most 65,536 bytes is read
   pub read : length text ≤ 65536 → output text ≡ partsText (lines text)
 
@@ -156,7 +157,7 @@ text-says text = record {
   );
   not-refused = and-so (none-exactly text) ((λ h. (h .0, (h .1, h .2, opens (h .1) (h .2) (lines text) .0 (h .3)))), λ h. (h .0, h .1 .0, h .1 .1, opens (h .1 .0) (h .1 .1) (lines text) .1 (h .1 .2)));
   no-other = end-few text;
-  printed-last = last-lines-exactly text;
+  printed-last = λ number line some n l. rw (← line-is (pos number ∷ pos line ∷ [])) (last-lines-exactly text number line some n l);
   eighteen-is-printed = eighteen-printed text;
   read = others-read text;
 }

@@ -8,6 +8,7 @@ use lib.IntN.{pos}
 use lib.ListN.{length, getD}
 use lib.Count.{ones}
 use lib.Signed.{_<ℤ_}
+use Rattle.rules_number.specs.Over.{sumTo}
 use Rattle.rules_number.proofs.TestLaws.{above-exactly}
 use Rattle.rules_interval.specs.declared.Interval.{Interval}
 use Rattle.rules_path.specs.Judgements.{pathIn}
@@ -34,7 +35,7 @@ pub record SellersSay (d : Path) (rows : List Row) : Type 0 where
 
 -- ---- from the theorems, and back
 pub sellers-say : (d : Path) (rows : List Row) → SellerLines d (withholdable d) rows → SellersSay d rows
-unfolding withholdable share
+unfolding withholdable share sumTo
 sellers-say d rows s = record {
   who = s .who;
   named = s .exactly;
@@ -45,7 +46,7 @@ sellers-say d rows s = record {
 }
 
 lines-are : (m : Market) (v : Interval) (c : ℕ) (rows : List Row) → SellersSay (pathIn m v c) rows → SellerLines (pathIn m v c) (withholdable (pathIn m v c)) rows
-unfolding withholdable share
+unfolding withholdable share sumTo
 lines-are m v c rows s = record {
   who = s .who;
   order = record { exactly = exactly-named (pathIn m v c) (le-refl 16) (s .who) (s .named); once = s .once; falls = s .larger-first; ties = s .ties };

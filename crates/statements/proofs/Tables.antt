@@ -3,38 +3,38 @@ use mathlib.Core.Bool.{Bool, true, false, _&&_}
 use mathlib.Core.List.{List, [], _∷_, _++_, map, List·Memᴰ, List·Memᴰ·head, List·Memᴰ·tail, List·Memᴰ·not-nil, List·Memᴰ·cases-cons}
 use mathlib.Core.Logic.{_⊎_, inl, inr, ⊎-elim}
 use mathlib.Core.Option.{Option, none, some}
-use mathlib.Core.Path.{_≡_, refl, ap, ap₂, _∙_}
+use mathlib.Core.Path.{_≡_, refl, sym, ap, ap₂, _∙_}
 use Prim.Native.Nat.{ℕ, suc, _+_, _*_, _/_, _%_, _<_}
 use native.Mathlib.Omega.{arith}
 use borrow.Author.Tests.{eqb-true, eq-eqb}
 use lib.Dec.{eqb}
 use lib.IntN.{ℤ, pos}
-use lib.ListN.{length, getD}
+use lib.ListN.{length, getD, take}
 use Rattle.rules_number.specs.Over.{listed, padded}
 use Rattle.rules_number.proofs.OverLaws.{listed-at}
 use Rattle.rules_curve.specs.declared.RawStep.{RawStep}
 use Rattle.rules_cost.specs.declared.Point.{Point}
 use Rattle.rules_opening.specs.declared.Source.the-variants as source
 use Rattle.rules_opening.specs.declared.Resource.{Resource}
-use Rattle.rules_text.specs.Numbers.{Line, bytes}
-use Rattle.rules_text.specs.Printing.{lineText}
-use Rattle.rules_text.specs.Spelled.{together, countedRows, groupedRows}
+use Rattle.rules_text.specs.Numbers.{Line}
+use Rattle.rules_text.specs.Spelled.{together, countedRows}
 use Rattle.rules_parts.specs.Texts.{GivenResource, GivenOpening, GivenFactor, GivenInterval, openingLines, openingText, openingIs, resourceIs, intervalLines, intervalText, intervalIs, parameterLine, parameterIs, factorOf}
+use Rattle.statements.proofs.Plain.{Padded, Joined, Ascii, LineOf, Counted, Grouped, line-is, lines-are, grouped-is}
 
 -- "Each table is a line of names, then lines of values in that order"
 abbrev table : Line → List (List ℤ) → List Line
-table names rows = names ∷ map lineText rows
+table names rows = names ∷ map LineOf rows
 
 -- ---- an opening's six tables
 pub opening-tables : (o : GivenOpening) → openingLines o
-    ≡ table (bytes "month\n") ((o .month ∷ []) ∷ [])
-    ++ (table (bytes "portfolio seller\n") (countedRows (λ s. s ∷ []) 0 (o .sellers))
-    ++ (table (bytes "resource portfolio start\n") (countedRows (λ r. r .portfolio ∷ r .start ∷ []) 0 (o .resources))
-    ++ (table (bytes "resource end price\n") (together (groupedRows (λ r. map (λ s. s .end ∷ s .price ∷ []) (r .steps)) 0 (o .resources)))
-    ++ (table (bytes "resource mw heat\n") (together (groupedRows (λ r. map (λ p. p .mw ∷ p .heat ∷ []) (r .points)) 0 (o .resources)))
-    ++ table (bytes "resource gas rate allowance om msc soc fee\n") (countedRows (λ r. r .gas ∷ r .rate ∷ r .allowance ∷ r .om ∷ r .msc ∷ r .soc ∷ r .fee ∷ []) 0 (o .resources))))))
-unfolding openingLines
-opening-tables o = refl
+    ≡ table (Ascii "month\n") ((o .month ∷ []) ∷ [])
+    ++ (table (Ascii "portfolio seller\n") (Counted (λ s. s ∷ []) 0 (o .sellers))
+    ++ (table (Ascii "resource portfolio start\n") (Counted (λ r. r .portfolio ∷ r .start ∷ []) 0 (o .resources))
+    ++ (table (Ascii "resource end price\n") (Grouped (λ r. map (λ s. s .end ∷ s .price ∷ []) (r .steps)) 0 (o .resources))
+    ++ (table (Ascii "resource mw heat\n") (Grouped (λ r. map (λ p. p .mw ∷ p .heat ∷ []) (r .points)) 0 (o .resources))
+    ++ table (Ascii "resource gas rate allowance om msc soc fee\n") (Counted (λ r. r .gas ∷ r .rate ∷ r .allowance ∷ r .om ∷ r .msc ∷ r .soc ∷ r .fee ∷ []) 0 (o .resources))))))
+unfolding openingLines countedRows Counted
+opening-tables o = simp (lines-are, line-is, grouped-is) refl
 
 -- ---- and its values
 abbrev noStep : RawStep
@@ -43,13 +43,17 @@ noStep = record { end = pos 0; price = pos 0 }
 abbrev noPoint : Point
 noPoint = record { mw = pos 0; heat = pos 0 }
 
+-- counts are those of the lines, however many; an array of n cells has the first n lines, and b in each cell past them
+abbrev pub array : {A : Type 0} → ℕ → A → List A → List A
+array n b l = Padded n b (take n l)
+
 pub resource-values : (r : GivenResource) → resourceIs r ≡ record {
   portfolio = r .portfolio;
-  bid = record { start = r .start; count = length (r .steps); steps = padded 11 noStep (r .steps) };
+  bid = record { start = r .start; count = length (r .steps); steps = array 11 noStep (r .steps) };
   source = source.Costs;
   costs = record {
     count = length (r .points);
-    points = padded 11 noPoint (r .points);
+    points = array 11 noPoint (r .points);
     gas = r .gas;
     rate = r .rate;
     allowance = r .allowance;
@@ -58,46 +62,47 @@ pub resource-values : (r : GivenResource) → resourceIs r ≡ record {
     soc = r .soc;
     fee = r .fee;
   };
-  pack = record { start = pos 0; count = 0; steps = padded 11 noStep [] };
+  pack = record { start = pos 0; count = 0; steps = array 11 noStep [] };
 }
+unfolding padded
 resource-values r = refl
 
 pub opening-values : (o : GivenOpening)
-    → (openingIs o .month ≡ o .month) × (openingIs o .portfolios ≡ length (o .sellers)) × (openingIs o .sellers ≡ padded 16 (pos 0) (o .sellers))
-    × (openingIs o .resources ≡ length (o .resources)) × ((b : Resource) × (openingIs o .list ≡ padded 64 b (map resourceIs (o .resources))))
-unfolding openingIs
+    → (openingIs o .month ≡ o .month) × (openingIs o .portfolios ≡ length (o .sellers)) × (openingIs o .sellers ≡ array 16 (pos 0) (o .sellers))
+    × (openingIs o .resources ≡ length (o .resources)) × ((b : Resource) × (openingIs o .list ≡ array 64 b (map resourceIs (o .resources))))
+unfolding openingIs padded
 opening-values o = (refl, refl, refl, refl, (_, refl))
 
 -- ---- an interval's four tables: "Parameter "-" alone is missing", and by paper 02, 2.5, "Missing now means 0"
-pub interval-tables : (i : GivenInterval) → (line : Line) → (i .parameter ≡ none → line ≡ bytes "-\n") → ((z : ℤ) → i .parameter ≡ some z → line ≡ lineText (z ∷ []))
+pub interval-tables : (i : GivenInterval) → (line : Line) → (i .parameter ≡ none → line ≡ Ascii "-\n") → ((z : ℤ) → i .parameter ≡ some z → line ≡ LineOf (z ∷ []))
     → intervalLines i
-    ≡ table (bytes "constraint shadow\n") (countedRows (λ s. s ∷ []) 0 (i .shadows))
-    ++ (table (bytes "resource lmp dispatch available floor\n") (countedRows (λ x. x .lmp ∷ x .dispatch ∷ x .available ∷ x .floor ∷ []) 0 (i .outputs))
-    ++ (table (bytes "resource constraint factor\n") (map (λ f. pos (f .resource) ∷ pos (f .constraint) ∷ f .factor ∷ []) (i .factors))
-    ++ (bytes "parameter\n" ∷ line ∷ [])))
-unfolding intervalLines
-interval-tables i line missing there = rw (is (i .parameter) missing there) refl
+    ≡ table (Ascii "constraint shadow\n") (Counted (λ s. s ∷ []) 0 (i .shadows))
+    ++ (table (Ascii "resource lmp dispatch available floor\n") (Counted (λ x. x .lmp ∷ x .dispatch ∷ x .available ∷ x .floor ∷ []) 0 (i .outputs))
+    ++ (table (Ascii "resource constraint factor\n") (map (λ f. pos (f .resource) ∷ pos (f .constraint) ∷ f .factor ∷ []) (i .factors))
+    ++ (Ascii "parameter\n" ∷ line ∷ [])))
+unfolding intervalLines countedRows Counted
+interval-tables i line missing there = rw (is (i .parameter) missing there, ← lines-are) refl
   where
-    is : (p : Option ℤ) → (p ≡ none → line ≡ bytes "-\n") → ((z : ℤ) → p ≡ some z → line ≡ lineText (z ∷ [])) → line ≡ parameterLine p
+    is : (p : Option ℤ) → (p ≡ none → line ≡ Ascii "-\n") → ((z : ℤ) → p ≡ some z → line ≡ LineOf (z ∷ [])) → line ≡ parameterLine p
     is none m t = m refl
-    is (some z) m t = t z refl
+    is (some z) m t = t z refl ∙ sym (line-is (z ∷ []))
 
 -- ---- and its values: the factor of resource r and constraint c stands at r × 32 + c, "an absent one is 0"
 pub interval-values : (i : GivenInterval)
-    → (intervalIs i .constraints ≡ length (i .shadows)) × (intervalIs i .shadow ≡ padded 32 (pos 0) (i .shadows))
+    → (intervalIs i .constraints ≡ length (i .shadows)) × (intervalIs i .shadow ≡ array 32 (pos 0) (i .shadows))
     × (intervalIs i .resources ≡ length (i .outputs))
-    × (intervalIs i .lmp ≡ padded 64 (pos 0) (map (λ x. x .lmp) (i .outputs)))
-    × (intervalIs i .dispatch ≡ padded 64 (pos 0) (map (λ x. x .dispatch) (i .outputs)))
-    × (intervalIs i .available ≡ padded 64 (pos 0) (map (λ x. x .available) (i .outputs)))
-    × (intervalIs i .floor ≡ padded 64 (pos 0) (map (λ x. x .floor) (i .outputs)))
+    × (intervalIs i .lmp ≡ array 64 (pos 0) (map (λ x. x .lmp) (i .outputs)))
+    × (intervalIs i .dispatch ≡ array 64 (pos 0) (map (λ x. x .dispatch) (i .outputs)))
+    × (intervalIs i .available ≡ array 64 (pos 0) (map (λ x. x .available) (i .outputs)))
+    × (intervalIs i .floor ≡ array 64 (pos 0) (map (λ x. x .floor) (i .outputs)))
     × (i .parameter ≡ none → intervalIs i .parameter ≡ pos 0)
     × ((z : ℤ) → i .parameter ≡ some z → intervalIs i .parameter ≡ z)
-unfolding intervalIs
+unfolding intervalIs padded
 interval-values i = (refl, refl, refl, refl, refl, refl, refl, (λ e. ap parameterIs e), λ z e. ap parameterIs e)
 
 -- the texts are those lines, one after another
-pub texts : (o : GivenOpening) (i : GivenInterval) → (openingText o ≡ together (openingLines o)) × (intervalText i ≡ together (intervalLines i))
-unfolding openingText intervalText
+pub texts : (o : GivenOpening) (i : GivenInterval) → (openingText o ≡ Joined (openingLines o)) × (intervalText i ≡ Joined (intervalLines i))
+unfolding openingText intervalText together Joined
 texts o i = (refl, refl)
 
 abbrev pub noFactor : GivenFactor

@@ -12,7 +12,6 @@ use lib.IntN.{ℤ, pos, natAbs}
 use lib.ListN.{length, take, drop, getD}
 use Rattle.rules_number.proofs.OverLaws.{never, both}
 use Rattle.rules_text.specs.Numbers.{Line, lines, isDigit, digitCount, number, row}
-use Rattle.rules_text.specs.Printing.{decimal, lineText}
 use Rattle.rules_text.specs.Spelled.{Every, no-more, and-all, together}
 use Rattle.rules_text.specs.declared.Number.the-variants.{Is}
 use Rattle.rules_text.proofs.NameLaws.{isLine}
@@ -21,6 +20,7 @@ use Rattle.rules_text.proofs.ClosedLines.{lines-together, together-lines, noTen
 use Rattle.rules_text.proofs.RoundTrip.{number-back, row-back}
 use Rattle.rules_text.proofs.OnlySpelling.{number-iff, row-iff}
 use Rattle.statements.proofs.Told.{and-so}
+use Rattle.statements.proofs.Plain.{Decimal, LineOf, Joined, decimal-is, line-is}
 
 -- what holds of every element holds of each that is in the list
 pub each : {A : Type 0} (P Q : A → Type 0) → ((x : A) → P x ↔ Q x) → (l : List A) → Every P l ↔ ((x : A) → List·Memᴰ x l → Q x)
@@ -56,23 +56,23 @@ no-digit zero (b ∷ t) = ((λ e low high. let d = digit-yes b low high in let n
     back false e h = refl
 
 -- a text begins with a number of k bytes exactly when it begins with the bytes that print it, which are k, and no digit follows them
-pub number-read : (t : List ℕ) (z : ℤ) (k : ℕ) → (number t ≡ Is z k) ↔ ((take k t ≡ decimal z) × (k ≡ length (decimal z)) × Twelve z × NoDigit t k)
-number-read t z k = and-so (number-iff t z k) (
+pub number-read : (t : List ℕ) (z : ℤ) (k : ℕ) → (number t ≡ Is z k) ↔ ((take k t ≡ Decimal z) × (k ≡ length (Decimal z)) × Twelve z × NoDigit t k)
+number-read t z k = rw (← decimal-is z) (and-so (number-iff t z k) (
   (λ b. (b .is, b .count, b .small, no-digit k t .0 (b .stop))),
   λ b. record { is = b .0; count = b .1; small = b .2; stop = no-digit k t .1 (b .3) },
-)
+))
 
 -- a line is read as k values exactly when it is the line that prints them
-pub line-read : (k : ℕ) (l : List ℕ) (xs : List ℤ) → (row k l ≡ some xs) ↔ ((length xs ≡ k) × (l ≡ lineText xs) × ((z : ℤ) → List·Memᴰ z xs → Twelve z))
+pub line-read : (k : ℕ) (l : List ℕ) (xs : List ℤ) → (row k l ≡ some xs) ↔ ((length xs ≡ k) × (l ≡ LineOf xs) × ((z : ℤ) → List·Memᴰ z xs → Twelve z))
 line-read k l xs =
-    and-so (row-iff k l xs) ((λ s. (s .count, s .is, twelve xs .0 (s .small))), λ s. record { count = s .0; is = s .1; small = twelve xs .1 (s .2) })
+    rw (← line-is xs) (and-so (row-iff k l xs) ((λ s. (s .count, s .is, twelve xs .0 (s .small))), λ s. record { count = s .0; is = s .1; small = twelve xs .1 (s .2) }))
 
 -- so what is printed, of numbers that have at most 12 digits, is read back as itself
-pub number-again : (z : ℤ) (r : List ℕ) → Twelve z → NoDigit r 0 → number (decimal z ++ r) ≡ Is z (length (decimal z))
-number-again z r small stop = number-back z r small (no-digit 0 r .1 stop)
+pub number-again : (z : ℤ) (r : List ℕ) → Twelve z → NoDigit r 0 → number (Decimal z ++ r) ≡ Is z (length (Decimal z))
+number-again z r small stop = rw (← decimal-is z) (number-back z r small (no-digit 0 r .1 stop))
 
-pub line-again : (xs : List ℤ) → ((i : ℕ) → i < length xs → Twelve (getD xs i (pos 0))) → row (length xs) (lineText xs) ≡ some xs
-line-again = row-back
+pub line-again : (xs : List ℤ) → ((i : ℕ) → i < length xs → Twelve (getD xs i (pos 0))) → row (length xs) (LineOf xs) ≡ some xs
+line-again xs h = rw (← line-is xs) (row-back xs h)
 
 -- ---- "each line closed by byte 10"
 abbrev pub NoTen : List ℕ → Type 0
@@ -113,8 +113,9 @@ last [] = []
 last (b ∷ t) = (b ∷ t) ∷ []
 
 -- the lines of a text, joined, are the text; byte 10 stands at the end of each and nowhere else, save that what follows the last one is a line without it
-pub text-lines : (t : List ℕ) → (together (lines t) ≡ t)
+pub text-lines : (t : List ℕ) → (Joined (lines t) ≡ t)
     × ((closed : List (List ℕ)) × (rest : List ℕ) × (lines t ≡ closed ++ last rest) × ((l : List ℕ) → List·Memᴰ l closed → ClosedLine l) × NoTen rest)
+unfolding together Joined
 text-lines t = let s = split t in (together-lines t, (s .closed, s .open', s .is ∙ ap (λ (r : List Line). s .closed ++ r) (left-is (s .open')), each _ ClosedLine closed-line (s .closed) .0 (s .ends), no-ten (s .open') (s .none)))
   where
     left-is : (o : List ℕ) → left o ≡ last o
@@ -122,5 +123,6 @@ text-lines t = let s = split t in (together-lines t, (s .closed, s .open', s .is
     left-is (b ∷ o) = refl
 
 -- closed lines before a text are its first lines
-pub lines-of-lines : (ls : List (List ℕ)) (t : List ℕ) → ((l : List ℕ) → List·Memᴰ l ls → ClosedLine l) → lines (together ls ++ t) ≡ ls ++ lines t
+pub lines-of-lines : (ls : List (List ℕ)) (t : List ℕ) → ((l : List ℕ) → List·Memᴰ l ls → ClosedLine l) → lines (Joined ls ++ t) ≡ ls ++ lines t
+unfolding together Joined
 lines-of-lines ls t h = lines-together ls t (each _ ClosedLine closed-line ls .1 h)

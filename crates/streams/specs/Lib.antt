@@ -1,2 +1,2 @@
 -- Definitions that the contracts of the crate cite.
-pub mod Reads
+pub mod Streams

@@ -3,7 +3,6 @@ ghost use mathlib.Core.Path.{_≡_};
 ghost use lib.Count.{ones};
 ghost use Rattle.rules_path.specs.Verdicts.{findingNumber};
 use rules_path::Finding;
-use rules_path::Verdict;
 
 // The paper's number.
 pub fn finding_number(finding: Finding) -> u64
@@ -16,9 +15,9 @@ pub fn finding_number(finding: Finding) -> u64
     }
 }
 
-// How many sellers are named.
-pub fn sellers_named(verdict: Verdict) -> u32
-    ensures { λ r. ⌜ r ≡ ones (verdict .named) ⌝ }
+// How many sellers the bits of a verdict name.
+pub fn sellers_named(named: u32) -> u32
+    ensures { λ r. ⌜ r ≡ ones named ⌝ }
 {
-    u32::count_ones(verdict.named)
+    u32::count_ones(named)
 }

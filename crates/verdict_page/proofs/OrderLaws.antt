@@ -9,12 +9,12 @@ use borrow.Author.Tests.{lt-ltb, le-ltb, eqb-true, eqb-false, eq-eqb}
 use native.Mathlib.Omega.{arith}
 use native.Mathlib.Nat.{add-div-left, add-zero, add-suc, pow-suc}
 use native.Mathlib.Numerals.{add-one}
-use lib.Count.{trailingZeros, under}
+use lib.Count.{ones, trailingZeros, under}
 use lib.Dec.{ltb, eqb}
-use lib.Pow.{pow-pos, pow-mono, shr-shr}
+use lib.Pow.{pow-pos, pow-mono, shr-shr, field, mod-mod-pow}
 use Rattle.rules_number.proofs.OverLaws.{le-or-lt}
 use Rattle.rules_path.specs.Verdicts.{bit}
-use Rattle.rules_path.proofs.BitLaws.{add-bit-other, bit-past}
+use Rattle.rules_path.proofs.BitLaws.{add-bit-other, add-bit-ones, bit-past}
 use Rattle.rules_page.specs.Weights.{without, later, leads, andThen, byWeight}
 use Rattle.rules_page.proofs.SellerOrder.{Leads, leads-are}
 use Rattle.verdict_page.specs.Orders.{isLeft, orSixteen}
@@ -134,22 +134,39 @@ module _ (w : ℕ → ℕ) (left p rest : ℕ) (e : rest ≡ left / 2 ^ p) where
   pub rest-after : (k : ℕ) → rest / 2 ^ k / 2 ≡ left / 2 ^ (p + k + 1)
   rest-after k = ap (λ (r : ℕ). r / 2 ^ k / 2) e ∙ ap (λ (r : ℕ). r / 2) (shr-shr left p k) ∙ shr-shr left (p + k) 1
 
--- taking its bit away strikes a portfolio out and leaves the others
-pub struck-out : (q m : ℕ) → isLeft m q ≡ true → isLeft (m - 2 ^ q) ≡ without q (isLeft m)
-struck-out q m h = λ i p. at p i
-  where
-    sum : 2 ^ q + (m - 2 ^ q) ≡ m
-    sum = omega (arith, bit-there q m h)
+-- taking its bit away strikes a portfolio out and leaves the others, of which there is one fewer
+module _ (q m : ℕ) (h : isLeft m q ≡ true) where
+  sum : 2 ^ q + (m - 2 ^ q) ≡ m
+  sum = omega (arith, bit-there q m h)
 
-    gone : bit q (m - 2 ^ q) ≡ 0
-    gone = omega (arith, add-div-left (m - 2 ^ q) {k = 2 ^ q} (pow-pos q), ap (bit q) sum, eqb-true (bit q m) 1 h)
+  gone : bit q (m - 2 ^ q) ≡ 0
+  gone = omega (arith, add-div-left (m - 2 ^ q) {k = 2 ^ q} (pow-pos q), ap (bit q) sum, eqb-true (bit q m) 1 h)
 
-    at : (p : ℕ) → isLeft (m - 2 ^ q) p ≡ without q (isLeft m) p
-    at p = go (eqb p q) refl
-      where
-        go : (d : Bool) → eqb p q ≡ d → isLeft (m - 2 ^ q) p ≡ cond d false (isLeft m p)
-        go true e = ap (λ (k : ℕ). isLeft (m - 2 ^ q) k) (eqb-true p q e) ∙ ap (λ (b : ℕ). eqb b 1) gone
-        go false e = ap (λ (b : ℕ). eqb b 1) (sym (add-bit-other p q (m - 2 ^ q) gone (eqb-false p q e)) ∙ ap (bit p) sum)
+  pub struck-out : isLeft (m - 2 ^ q) ≡ without q (isLeft m)
+  struck-out = λ i p. at p i
+    where
+      at : (p : ℕ) → isLeft (m - 2 ^ q) p ≡ without q (isLeft m) p
+      at p = go (eqb p q) refl
+        where
+          go : (d : Bool) → eqb p q ≡ d → isLeft (m - 2 ^ q) p ≡ cond d false (isLeft m p)
+          go true e = ap (λ (k : ℕ). isLeft (m - 2 ^ q) k) (eqb-true p q e) ∙ ap (λ (b : ℕ). eqb b 1) gone
+          go false e = ap (λ (b : ℕ). eqb b 1) (sym (add-bit-other p q (m - 2 ^ q) gone (eqb-false p q e)) ∙ ap (bit p) sum)
+
+  pub one-fewer : ones m ≡ suc (ones (m - 2 ^ q))
+  one-fewer = sym (ap ones sum) ∙ add-bit-ones q (m - 2 ^ q) gone
+
+-- the bit of a portfolio is one of the low sixteen
+low-bit : (p m : ℕ) → p < 16 → bit p (m % 65536) ≡ bit p m
+low-bit p m h =
+    let k : 16 ≡ 15 - p + 1 + p = omega (arith, h) in
+    ap (λ (j : ℕ). bit p (m % 2 ^ j)) k ∙ ap (λ (r : ℕ). r % 2) (field m (15 - p + 1) p) ∙ mod-mod-pow (m / 2 ^ p) (15 - p) 1
+
+-- of which one fewer is left without it
+pub one-fewer-low : (p m : ℕ) → p < 16 → isLeft m p ≡ true → ones (m % 65536) ≡ suc (ones ((m - 2 ^ p) % 65536))
+one-fewer-low p m l h =
+    let k = ap (λ (b : ℕ). eqb b 1) (low-bit p m l) ∙ h in
+    let rest : m % 65536 - 2 ^ p ≡ (m - 2 ^ p) % 65536 = omega (arith, bit-there p (m % 65536) k) in
+    one-fewer p (m % 65536) k ∙ ap (λ (r : ℕ). suc (ones r)) rest
 
 -- the bit of a portfolio, as the code shifts it
 pub one-shifted : (p : ℕ) → p < 16 → 1 * 2 ^ p % 4294967296 ≡ 2 ^ p

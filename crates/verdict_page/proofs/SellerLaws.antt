@@ -1,13 +1,15 @@
 -- Laws of the sellers that are printed from the cells of a verdict, one after the other. Assumes nothing.
 use Prim.Native.Nat.{ℕ, suc, _+_, _-_, _*_, _%_, _^_, _≤_, _<_}
-use mathlib.Core.Bool.{Bool}
+use mathlib.Core.Bool.{Bool, true}
 use mathlib.Core.List.{List, [], _∷_, _++_, map}
 use mathlib.Core.Path.{_≡_, refl, sym, ap, _∙_}
+use mathlib.Core.Logic.{⊎-elim}
 use native.Mathlib.Omega.{arith}
+use lib.Count.{ones, ones-le}
 use lib.IntN.{ℤ, pos}
 use lib.Signed.{mag}
 use Rattle.rules_number.specs.Order.{natOf}
-use Rattle.rules_number.proofs.OverLaws.{listed-at}
+use Rattle.rules_number.proofs.OverLaws.{listed-at, le-or-lt}
 use Rattle.rules_path.specs.Verdicts.{notBinding, isNamed}
 use Rattle.rules_path.specs.declared.Finding.{Finding}
 use Rattle.rules_path.specs.declared.Finding.the-variants.{Competitive, NonCompetitive, NotBinding}
@@ -17,7 +19,7 @@ use Rattle.rules_path.proofs.BitLaws.{bit-zero}
 use Rattle.rules_page.specs.Pages.{printable, unlessNotBinding, shown, weightOf, sellerRow, sellersNamed, sellerRows}
 use Rattle.rules_page.specs.Weights.{leads, byWeight}
 use Rattle.verdict_page.specs.Orders.{weightIn, isLeft, orSixteen}
-use Rattle.verdict_page.proofs.OrderLaws.{none-led, rest-none, led, order-none, order-next, struck-out}
+use Rattle.verdict_page.proofs.OrderLaws.{none-led, rest-none, led, order-none, order-next, struck-out, one-fewer, one-fewer-low}
 use Rattle.rules_library.specs.Slices.{cellAt}
 use Rattle.rules_state.specs.Layout.{verdictWidth, mostPortfolios}
 use Rattle.rules_state.specs.States.{wholesIn}
@@ -75,9 +77,23 @@ module _ (w : List ℕ) (i c left n p : ℕ) (e : p ≡ orSixteen (leads (weight
   unfolding groupText
   left-none h = ap (λ (x : List ℕ). groupText i c (map (sellerIn w) x)) (order-none (weightIn w) (isLeft left) p e h (16 - n))
 
--- there are no more than 16
-pub left-past : (w : List ℕ) (i c left n : ℕ) → 16 ≤ n → groupText i c (leftRows w left n) ≡ []
-unfolding groupText byWeight
-left-past w i c left n h =
-    let k : 16 - n ≡ 0 = omega arith in
-    ap (λ (j : ℕ). groupText i c (map (sellerIn w) (byWeight j (weightIn w) (isLeft left)))) k
+-- n sellers are put, of the 16 that there may be
+abbrev pub fewPut : ℕ → ℕ → Type 0
+fewPut left n = ones (left % 65536) + n ≤ 16
+
+pub none-put : (left : ℕ) → fewPut left 0
+none-put left = omega (arith, ones-le 16 (left % 65536) (omega arith))
+
+-- as many ones are left as are still to be put
+module _ (left n p one : ℕ) (e : one ≡ 2 ^ p) (h : isLeft left p ≡ true) where
+  pub still-left : (all : ℕ) → ones left + n ≡ all → ones (left - one) + (n + 1) ≡ all
+  still-left all sum = rw e (omega (arith, sum, one-fewer p left h))
+
+  pub few-still : p < 16 → fewPut left n → (n < 16) × fewPut (left - one) (n + 1)
+  few-still l few = rw e (omega (arith, few, one-fewer-low p left l h), omega (arith, few, one-fewer-low p left l h))
+
+-- once as many are put as there are ones, none is left
+pub left-counted : (w : List ℕ) (i c left n : ℕ) → ones left ≡ 0 → groupText i c (leftRows w left n) ≡ []
+left-counted w i c left n none =
+    let p = orSixteen (leads (weightIn w) (isLeft left) 16) in
+    ⊎-elim (left-none w i c left n p refl) (λ h. absurd (omega (arith, none, one-fewer p left (led (weightIn w) (isLeft left) p refl h .1)))) (le-or-lt 16 p)

@@ -213,9 +213,10 @@ fn put_named(
     let finding = verdicts[from];
     let names = verdicts[from + 3];
     let mut left = named_by(finding, names);
+    let sellers = verdict::sellers_named(left) as usize;
     let mut q = at;
     let mut n: usize = 0;
-    while n < Market::MAX_PORTFOLIOS {
+    while n < sellers {
         let p = next_seller(verdicts, c, left);
         if p >= Market::MAX_PORTFOLIOS {
             return q;

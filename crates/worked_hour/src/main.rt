@@ -33,7 +33,7 @@ fn print_verdict(v: Verdict) {
     print(b"verdict ", verdict::finding_number(finding));
     print(b" ", v.demand);
     print(b" ", v.left);
-    print(b" sellers ", verdict::sellers_named(v) as u64);
+    print(b" sellers ", verdict::sellers_named(v.named) as u64);
     io::write_all(STDOUT_FILENO, b"\n");
 }
 

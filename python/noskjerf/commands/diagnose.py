@@ -1,19 +1,22 @@
-"""`noskjerf diagnose`: which value a text is refused for."""
+"""`noskjerf diagnose`: which value a text is refused for, or what is wrong with a line of it."""
 
 from __future__ import annotations
 
 import argparse
 import json
+import sys
 from dataclasses import asdict
 from typing import Any
 
 from ..diagnosis import Diagnosis, diagnose
 from ..files import named, say, show, text_of
+from ..refusal import Refusal
 
 DESCRIPTION = """\
 Which value a text is refused for. The engine tells a number and the last line of the part; each
 value of that part is then put to the engine by itself, and those that it refuses are named, with
-the line they stand on."""
+the line they stand on. Of a line that isn't of the form (17), which the engine names, the column
+at fault, what was due there and the likely cause are shown."""
 EPILOG = """\
 examples:
   noskjerf diagnose hour.txt
@@ -34,20 +37,32 @@ def main(args: argparse.Namespace) -> int:
     show(_as_json(found) if args.format == "json" else as_text(found))
     if found.refusal is None:
         return 0
-    say(f"{named(args.file)}: {found.refusal}")
+    if sys.stdout is None or not sys.stdout.isatty():
+        say(f"{named(args.file)}: {found.refusal.headline}")
     return 1
 
 
 def as_text(found: Diagnosis) -> str:
     """A diagnosis in lines."""
-    refusal = found.refusal
-    if refusal is None:
+    if found.refusal is None:
         return "accepted\n"
-    faults = "".join(f"  {fault}\n" for fault in found.faults)
-    return f"refusal {refusal.number}, {refusal.part}, line {refusal.line}: {refusal.sentence}\n{faults}"
+    refusal, slip = found.refusal, found.refusal.slip
+    column = "" if slip is None or slip.column is None else f", column {slip.column}"
+    details = "".join(f"  {line}\n" for line in found.details())
+    return f"refusal {refusal.number}, {refusal.part}, line {refusal.line}{column}: {refusal.sentence}\n{details}"
 
 
 def _as_json(found: Diagnosis) -> str:
     refusal = found.refusal
     told = refusal and {"number": refusal.number, "line": refusal.line, "part": refusal.part, "sentence": refusal.sentence}
-    return json.dumps({"refusal": told, "resource": found.resource, "faults": [asdict(fault) for fault in found.faults]}, indent=2) + "\n"
+    faults = [asdict(fault) for fault in found.faults]
+    return json.dumps({"refusal": told, "resource": found.resource, "faults": faults, "form": _form(refusal)}, indent=2) + "\n"
+
+
+def _form(refusal: Refusal | None) -> dict[str, object] | None:
+    """What is wrong with the line that isn't of the form; bytes outside ASCII are escaped."""
+    slip = None if refusal is None else refusal.slip
+    if slip is None:
+        return None
+    stands = slip.stands.decode("ascii", "backslashreplace")
+    return {"column": slip.column, "stands": stands, "due": slip.due, "kind": slip.kind, "cause": slip.cause, "mend": slip.mend}

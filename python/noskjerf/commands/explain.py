@@ -87,7 +87,7 @@ def _explain_text(path: str, kind: str) -> int:
         say(f"{named(path)}: {line}")
     refusal = found.diagnosis.refusal
     if refusal is not None:
-        say(f"{named(path)}: {refusal}")
+        say(f"{named(path)}: {refusal.headline}")
     return 2 if found.differences else 0 if refusal is None else 1
 
 

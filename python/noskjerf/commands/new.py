@@ -7,7 +7,7 @@ import os
 from collections.abc import Callable
 from typing import Any
 
-from ..files import Trouble, say, show, shown, write_together
+from ..files import say, show, shown, there_already, write_together
 from ..starter import comments, starter
 from ..text import run
 
@@ -51,7 +51,7 @@ def main(args: argparse.Namespace) -> int:
     beside = f"{args.out}.md"
     for path in (args.out, beside):
         if os.path.lexists(path):
-            raise Trouble(f"{shown(path)}: it is there already")
-    write_together({args.out: text, beside: comments(shown(os.path.basename(args.out)), text)})
+            raise there_already(path)
+    write_together({args.out: text, beside: comments(shown(os.path.basename(args.out)), text)}, over=False)
     say(f"{shown(args.out)} and {shown(beside)} written")
     return 0

@@ -9,7 +9,7 @@ use Rattle.gas_default.proofs.default_curve.Tie as tie
 returns : tie.Need-returns
 returns c =
     let a = c .before .before .before .before .args in
-    let e = c .before .price-in-use .ensures in
+    let e = c .before .price-in-use .ensures .0 in
     let p = c .priced .ensures in
     (p .0 ∙ ap (λ (g : GasPrice). pricedRefusal g (a .costs)) e, p .1 ∙ ap (λ (g : GasPrice). pricedCurve g (a .costs)) e)
 

@@ -10,7 +10,7 @@ use Rattle.gas_default.proofs.default_on.Tie as tie
 returns : tie.Need-returns
 returns c =
     let a = c .before .before .before .before .args in
-    let e = c .before .price-of .ensures ∙ ap lastPrice (c .before .before .run-in .ensures) in
+    let e = c .before .price-of .ensures .0 ∙ ap lastPrice (c .before .before .run-in .ensures) in
     let p = c .priced .ensures in
     (p .0 ∙ ap (λ (g : GasPrice). pricedRefusal g (a .costs)) e, p .1 ∙ ap (λ (g : GasPrice). pricedCurve g (a .costs)) e)
 

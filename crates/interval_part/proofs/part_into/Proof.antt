@@ -17,7 +17,7 @@ use Rattle.rules_state.specs.States.{marketIn}
 use Rattle.rules_state.specs.Takes.{ifAccepted, standingWritten}
 use Rattle.rules_state.specs.Verdicts.{judgedCells}
 use Rattle.interval_part.specs.Shown.{nextIf}
-use Rattle.interval_part.specs.Taken.{Whole, refusalIn, takenBy, stateBy, verdictsBy, leftBy}
+use Rattle.interval_part.specs.Taken.{Whole, refusalIn, takenWhole, stateWhole, verdictsWhole, leftWhole}
 use Rattle.interval_part.proofs.PartLaws.{alike, answers-refusal, answers-accepted, left-refused, left-accepted}
 use Rattle.interval_part.proofs.part_into.Statement.{statement}
 use Rattle.interval_part.proofs.part_into.Tie as tie
@@ -49,8 +49,8 @@ returns c =
     let p = c .before .before .before .before in
     let a = start p .args in
     let q = p .part-at .ensures .0 .fails (c .if1 .taken) in (
-      sym (ap (takenBy (a .state .now) (a .at) (before p) (lines (drop (a .at) (text p)))) q),
-      (sym (ap (stateBy (a .state .now)) q), (sym (ap (verdictsBy (a .state .now) (a .verdicts .now)) q), sym (ap (leftBy (a .state .now)) q))),
+      sym (ap (takenWhole (a .state .now) (a .at) (before p) (lines (drop (a .at) (text p)))) q),
+      (sym (ap (stateWhole (a .state .now)) q), (sym (ap (verdictsWhole (a .state .now) (a .verdicts .now)) q), sym (ap (leftWhole (a .state .now)) q))),
     )
 
 abbrev reads : tie.After-take-into → tie.After-part-at
@@ -86,17 +86,17 @@ number c =
 -- the cells after it
 module _ (t : tie.After-take-into) (l : List ℤ) where
   state : let p = reads t in let a = start p .args in let w = interval p (rd (p .part-at .result .parameter)) in
-      l ≡ ifAccepted (refusalIn (a .state .now) w) (standingWritten (a .state .now) w) (a .state .now) → l ≡ stateBy (a .state .now) (due p)
+      l ≡ ifAccepted (refusalIn (a .state .now) w) (standingWritten (a .state .now) w) (a .state .now) → l ≡ stateWhole (a .state .now) (due p)
   state e =
       let s = start (reads t) .args .state .now in
-      e ∙ call-state _ (whole t .v) s (same t) ∙ sym (ap (stateBy s) (whole t .is))
+      e ∙ call-state _ (whole t .v) s (same t) ∙ sym (ap (stateWhole s) (whole t .is))
 
   verdicts : let p = reads t in let a = start p .args in let w = interval p (rd (p .part-at .result .parameter)) in
-      l ≡ ifAccepted (refusalIn (a .state .now) w) (sets (a .verdicts .now) 0 (judgedCells (marketIn (a .state .now)) w)) (a .verdicts .now) → l ≡ verdictsBy (a .state .now) (a .verdicts .now) (due p)
+      l ≡ ifAccepted (refusalIn (a .state .now) w) (sets (a .verdicts .now) 0 (judgedCells (marketIn (a .state .now)) w)) (a .verdicts .now) → l ≡ verdictsWhole (a .state .now) (a .verdicts .now) (due p)
   verdicts e =
       let s = start (reads t) .args .state .now in
       let z = start (reads t) .args .verdicts .now in
-      e ∙ call-verdicts _ (whole t .v) s (same t) z ∙ sym (ap (verdictsBy s z) (whole t .is))
+      e ∙ call-verdicts _ (whole t .v) s (same t) z ∙ sym (ap (verdictsWhole s z) (whole t .is))
 
 returns-2 : tie.Need-returns-2
 returns-2 c =
@@ -108,12 +108,12 @@ returns-2 c =
     let n = o .outcome-number .result in
     let f = whole t in
     let k = refusalIn (a .state .now) (f .v) in (
-      answers-refusal n k (number o) (c .if2 .taken) (r .line) _ (f .v .constraints) ∙ sym (ap (takenBy (a .state .now) (a .at) (before p) (lines (drop (a .at) (text p)))) (f .is)),
+      answers-refusal n k (number o) (c .if2 .taken) (r .line) _ (f .v .constraints) ∙ sym (ap (takenWhole (a .state .now) (a .at) (before p) (lines (drop (a .at) (text p)))) (f .is)),
       (
         state t _ (t .take-into .ensures .1 .0),
         (
           verdicts t _ (t .take-into .ensures .1 .1),
-          left-refused n k (number o) (c .if2 .taken) (lines (drop 0 (text p))) (lines (drop (r .next) (text p))) [] ∙ sym (ap (leftBy (a .state .now)) (f .is)),
+          left-refused n k (number o) (c .if2 .taken) (lines (drop 0 (text p))) (lines (drop (r .next) (text p))) [] ∙ sym (ap (leftWhole (a .state .now)) (f .is)),
         ),
       ),
     )
@@ -130,12 +130,12 @@ returns-3 c =
     let k = refusalIn (a .state .now) (f .v) in
     let next = p .part-at .ensures .1 ∙ ap (λ (i : ℕ). nextIf i (a .at) (r .line - before p) (lines (drop (a .at) (text p)))) (t .before .before .before .before .before .before .before .if1 .left) in (
       answers-accepted n k (number o) (c .if2 .left) (r .line) (r .next) _ (r .constraints) (f .v .constraints) next (f .same .constraints)
-          ∙ sym (ap (takenBy (a .state .now) (a .at) (before p) (lines (drop (a .at) (text p)))) (f .is)),
+          ∙ sym (ap (takenWhole (a .state .now) (a .at) (before p) (lines (drop (a .at) (text p)))) (f .is)),
       (
         state t _ (t .take-into .ensures .1 .0),
         (
           verdicts t _ (t .take-into .ensures .1 .1),
-          left-accepted n k (number o) (c .if2 .left) (lines (drop (r .next) (text p))) [] ∙ sym (ap (leftBy (a .state .now)) (f .is)),
+          left-accepted n k (number o) (c .if2 .left) (lines (drop (r .next) (text p))) [] ∙ sym (ap (leftWhole (a .state .now)) (f .is)),
         ),
       ),
     )

@@ -26,6 +26,9 @@ use Rattle.opening_part.proofs.part_opened.Tie as tie
 abbrev text : tie.Start → List ℕ
 text b = b .args .s .now
 
+abbrev from : tie.Start → ℕ
+from b = b .args .at
+
 -- ---- the month
 abbrev begun : tie.After-known-told → tie.Start
 begun k = k .before .before .before .before .before .before
@@ -33,27 +36,27 @@ begun k = k .before .before .before .before .before .before
 abbrev past : tie.After-known-told → ℕ
 past k = k .before .at .given .0 .0
 
-named : (k : tie.After-known-told) → At (past k) ≡ namesAt (text (begun k)) 0 (bytes "month\n")
+named : (k : tie.After-known-told) → At (past k) ≡ namesAt (text (begun k)) (from (begun k)) (bytes "month\n")
 named k = sym (k .before .at .given .1) ∙ k .before .before .before .line-is .ensures
 
-abbrev start : tie.After-row-of → tie.Start
+abbrev start : tie.After-row-at → tie.Start
 start k = begun (k .before)
 
 -- the line that is read
-answers : (k : tie.After-row-of) → k .row-of .result ≡ asRow (past (k .before) + length (line (drop (past (k .before)) (text (start k))))) (row 1 (line (drop (past (k .before)) (text (start k)))))
-answers k = k .row-of .ensures ∙ row-in (λ o. o) (text (start k)) (past (k .before)) 1 refl
+answers : (k : tie.After-row-at) → k .row-at .result ≡ asRow (past (k .before) + length (line (drop (past (k .before)) (text (start k))))) (row 1 (line (drop (past (k .before)) (text (start k)))))
+answers k = k .row-at .ensures ∙ row-in (λ o. o) (text (start k)) (past (k .before)) 1 refl
 
-abbrev read : tie.Else1 → tie.After-row-of
+abbrev read : tie.Else1 → tie.After-row-at
 read i = i .before .before .before
 
 abbrev began : tie.Else1 → tie.Start
 began i = start (read i)
 
-abbrev holds : (i : tie.Else1) → Held (past (read i .before) + length (line (drop (past (read i .before)) (text (began i))))) (row 1 (line (drop (past (read i .before)) (text (began i))))) (read i .row-of .result)
-holds i = held _ _ (read i .row-of .result) (answers (read i)) (not-false (read i .row-of .result .ok) (i .if1 .left))
+abbrev holds : (i : tie.Else1) → Held (past (read i .before) + length (line (drop (past (read i .before)) (text (began i))))) (row 1 (line (drop (past (read i .before)) (text (began i))))) (read i .row-at .result)
+holds i = held _ _ (read i .row-at .result) (answers (read i)) (not-false (read i .row-at .result .ok) (i .if1 .left))
 
-first : (i : tie.Else1) → Stage (headed "month\n" (due single)) (text (began i)) 0 0 (cell 0 (holds i .x)) 2 (read i .row-of .result .next)
-first i = month-stage (text (began i)) 0 0 (past (read i .before)) (named (read i .before)) (holds i .x) (holds i .is) (read i .row-of .result .next) (holds i .after)
+first : (i : tie.Else1) → Stage (headed "month\n" (due single)) (text (began i)) 0 (from (began i)) (cell 0 (holds i .x)) 2 (read i .row-at .result .next)
+first i = month-stage (text (began i)) 0 (from (began i)) (past (read i .before)) (named (read i .before)) (holds i .x) (holds i .is) (read i .row-at .result .next) (holds i .after)
 
 -- ---- the portfolios
 abbrev month : tie.After-sellers-at → tie.Else1
@@ -68,35 +71,35 @@ rows t = counting 2 (lines (drop (past2 t) (text (began (month t)))))
 abbrev count : tie.After-sellers-at → ℕ
 count t = t .sellers-at .result .count
 
-second : (t : tie.After-sellers-at) → let i = month t in Stage (headed "portfolio seller\n" (counted 2)) (text (began i)) 2 (read i .row-of .result .next) (rows t) (3 + count t) (t .sellers-at .result .next)
+second : (t : tie.After-sellers-at) → let i = month t in Stage (headed "portfolio seller\n" (counted 2)) (text (began i)) 2 (read i .row-at .result .next) (rows t) (3 + count t) (t .sellers-at .result .next)
 second t =
     let i = month t in
     let k = t .before .before .before in
-    portfolio-stage (text (began i)) 2 (read i .row-of .result .next) (past2 t) (count t) (t .sellers-at .result .next)
+    portfolio-stage (text (began i)) 2 (read i .row-at .result .next) (past2 t) (count t) (t .sellers-at .result .next)
     (sym (k .at2 .given .1) ∙ k .before .before .line-is2 .ensures) (t .sellers-at .ensures .0) (t .sellers-at .ensures .1 .1 .1)
 
 few : (t : tie.After-sellers-at) → 3 + count t + length (lines (drop (t .sellers-at .result .next) (text (began (month t))))) ≤ length (text (began (month t)))
 few t =
     let s = text (began (month t)) in
-    omega (arith, second t .few, first (month t) .few, text-few s 0)
+    omega (arith, second t .few, first (month t) .few, text-few s (from (began (month t))))
 
 -- ---- the needs
 returns : tie.Need-returns
 returns c =
     let l = c .before .before .before in
     let b = l .before .before .before in
-    let R = readOpening 0 (lines (text b)) in
-    opened-first (text b) R (b .args .state .now) (b .args .state .now) (c .faulty-line .result)
-    (opened-fault (text b) 0 0 R 1 (unnamed-month (text b) 0 0 (sym (c .before .enum-told .given .1) ∙ l .line-is .ensures)) (b .args .state .now) (c .faulty-line .result) (c .faulty-line .ensures))
+    let R = readOpening 0 (lines (drop (from b) (text b))) in
+    opened-first (text b) (from b) R (b .args .state .now) (b .args .state .now) (c .faulty-line .result)
+    (opened-fault (text b) 0 (from b) R 1 (unnamed-month (text b) 0 (from b) (sym (c .before .enum-told .given .1) ∙ l .line-is .ensures)) (b .args .state .now) (c .faulty-line .result) (c .faulty-line .ensures))
 
 returns-2 : tie.Need-returns-2
 returns-2 c =
     let k = c .before .before .before .before in
     let b = start k in
-    let R = readOpening 0 (lines (text b)) in
-    opened-first (text b) R (b .args .state .now) (b .args .state .now) (c .faulty-line2 .result)
-    (opened-fault (text b) 0 0 R 2
-    (no-month (text b) 0 0 (past (k .before)) (named (k .before)) (not-held _ _ (k .row-of .result) (answers k) (not-true (k .row-of .result .ok) (c .before .if1 .taken))))
+    let R = readOpening 0 (lines (drop (from b) (text b))) in
+    opened-first (text b) (from b) R (b .args .state .now) (b .args .state .now) (c .faulty-line2 .result)
+    (opened-fault (text b) 0 (from b) R 2
+    (no-month (text b) 0 (from b) (past (k .before)) (named (k .before)) (not-held _ _ (k .row-at .result) (answers k) (not-true (k .row-at .result .ok) (c .before .if1 .taken))))
     (b .args .state .now) (c .faulty-line2 .result) (c .faulty-line2 .ensures))
 
 returns-3 : tie.Need-returns-3
@@ -104,10 +107,10 @@ returns-3 c =
     let l = c .before .before .before in
     let i = l .before .before in
     let b = began i in
-    let R = readOpening 0 (lines (text b)) in
-    opened-first (text b) R (b .args .state .now) (b .args .state .now) (c .faulty-line3 .result)
-    (opened-fault (text b) 0 0 R 3
-    (unnamed-portfolios (text b) 0 0 (cell 0 (holds i .x)) 2 (read i .row-of .result .next) (first i) (sym (c .before .enum-told2 .given .1) ∙ l .line-is2 .ensures))
+    let R = readOpening 0 (lines (drop (from b) (text b))) in
+    opened-first (text b) (from b) R (b .args .state .now) (b .args .state .now) (c .faulty-line3 .result)
+    (opened-fault (text b) 0 (from b) R 3
+    (unnamed-portfolios (text b) 0 (from b) (cell 0 (holds i .x)) 2 (read i .row-at .result .next) (first i) (sym (c .before .enum-told2 .given .1) ∙ l .line-is2 .ensures))
     (b .args .state .now) (c .faulty-line3 .result) (c .faulty-line3 .ensures))
 
 add-opened-after : tie.Need-add-opened-after
@@ -124,15 +127,15 @@ returns-4 c =
     let b = began i in
     let s = text b in
     let g = t .sellers-at in
-    let z = getD (read i .row-of .result .v) 0 (pos 0) in
+    let z = getD (read i .row-at .result .v) 0 (pos 0) in
     let sellers = g .last .1 .1 .0 in
     let A = headedFour (rd z) (count t) sellers (3 + count t) (lines (drop (g .result .next) s)) in
-    let R = readOpening 0 (lines s) in
-    opened-first s R (b .args .state .now) _ (o .opened-after .result)
-    (opened-as s 0 0 A R (b .args .state .now) _ (o .opened-after .result)
-    (past-portfolios s 0 0 (cell 0 (holds i .x)) 2 (read i .row-of .result .next) (first i) (rows t) (3 + count t) (g .result .next) (second t) (count t) (g .ensures .0) sellers (g .ensures .1 .0) (rd z)
+    let R = readOpening 0 (lines (drop (from b) s)) in
+    opened-first s (from b) R (b .args .state .now) _ (o .opened-after .result)
+    (opened-as s 0 (from b) A R (b .args .state .now) _ (o .opened-after .result)
+    (past-portfolios s 0 (from b) (cell 0 (holds i .x)) 2 (read i .row-at .result .next) (first i) (rows t) (3 + count t) (g .result .next) (second t) (count t) (g .ensures .0) sellers (g .ensures .1 .0) (rd z)
     (came z (o .before .before .before .opened-after-arg .given) ∙ holds i .cells 0 (omega arith)))
-    (opened-on s 0 0 (3 + count t) (g .result .next) (used-then (first i .used) (second t .used)) A (rises-headed-four (rd z) (count t) sellers (3 + count t) (lines (drop (g .result .next) s))) (b .args .state .now) _ (o .opened-after .result)
+    (opened-on s 0 (from b) (3 + count t) (g .result .next) (used-then (first i .used) (second t .used)) A (rises-headed-four (rd z) (count t) sellers (3 + count t) (lines (drop (g .result .next) s))) (b .args .state .now) _ (o .opened-after .result)
     (o .opened-after .ensures)))
 
 pub part-opened-spec : {M : Type 1} → statement M

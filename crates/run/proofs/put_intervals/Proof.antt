@@ -43,23 +43,23 @@ abbrev begin : tie.At-loop Inv-loop μ-loop → tie.Start Inv-loop μ-loop
 begin l = l .before .before .before .before .before
 
 -- the hour at the loop, and how far the run has come
-abbrev loop-of : tie.After-part-taken Inv-loop μ-loop → tie.At-loop Inv-loop μ-loop
+abbrev loop-of : tie.After-interval-of Inv-loop μ-loop → tie.At-loop Inv-loop μ-loop
 loop-of a = a .before .before .before .before
 
-abbrev more : (a : tie.After-part-taken Inv-loop μ-loop) → loop-of a .loop .at < length (begin (loop-of a) .args .text .now)
+abbrev more : (a : tie.After-interval-of Inv-loop μ-loop) → loop-of a .loop .at < length (begin (loop-of a) .args .text .now)
 more a = a .before .before .before .loop-test .taken
 
 -- what a part did
-took : (a : tie.After-part-taken Inv-loop μ-loop)
-    → Took (begin (loop-of a) .args .text .now) (loop-of a .loop .at) (loop-of a .loop .line) (loop-of a .loop .state) (a .part-taken .last .1 .1 .1 .0) (loop-of a .loop .verdicts) (a .part-taken .last .1 .1 .1 .1 .0)
-    (a .part-taken .result .number) (a .part-taken .result .line) (a .part-taken .result .next) (a .part-taken .result .constraints)
+took : (a : tie.After-interval-of Inv-loop μ-loop)
+    → Took (begin (loop-of a) .args .text .now) (loop-of a .loop .at) (loop-of a .loop .line) (loop-of a .loop .state) (a .interval-of .last .1 .1 .1 .0) (loop-of a .loop .verdicts) (a .interval-of .last .1 .1 .1 .1 .0)
+    (a .interval-of .result .number) (a .interval-of .result .line) (a .interval-of .result .next) (a .interval-of .result .constraints)
 took a =
     let l = loop-of a in
     let ls = lines (drop (l .loop .at) (begin l .args .text .now)) in
     let few : min (l .loop .line) 65536 ≡ l .loop .line = omega (arith, l .loop .inv .0 .left) in
-    let e = a .part-taken .ensures in
-    did (begin l .args .text .now) (l .loop .at) (l .loop .line) (l .loop .state) (a .part-taken .last .1 .1 .1 .0) (l .loop .verdicts) (a .part-taken .last .1 .1 .1 .1 .0) (a .part-taken .result)
-    (readInterval (l .loop .line) ls) refl (rw few at (e .0)) (rw few at (e .1 .0)) (rw few at (e .1 .1 .0)) (rw few at (e .1 .1 .1))
+    let e = a .interval-of .ensures in
+    did (begin l .args .text .now) (l .loop .at) (l .loop .line) (l .loop .state) (a .interval-of .last .1 .1 .1 .0) (l .loop .verdicts) (a .interval-of .last .1 .1 .1 .1 .0) (a .interval-of .result)
+    (omega (arith, l .loop .inv .1 .0, begin l .pre .1 .0 .0)) (readInterval (l .loop .line) ls) refl (rw few at (e .0)) (rw few at (e .1 .0)) (rw few at (e .1 .1 .0)) (rw few at (e .1 .1 .1))
 
 loop-holds : tie.Need-loop-holds Inv-loop μ-loop
 loop-holds c =
@@ -73,7 +73,7 @@ put-refusal-requires c κs =
     let a = c .before .before .before in
     let l = loop-of a in
     let w = l .loop .inv .0 in
-    let few = stopped-few w (more a) (took a) (positive (a .part-taken .result .number) (c .before .if1 .taken)) in
+    let few = stopped-few w (more a) (took a) (positive (a .interval-of .result .number) (c .before .if1 .taken)) in
     (omega (arith, w .few, w .high, w .put .long, begin l .pre .1 .1 .0), few)
 
 -- where a refusal ends the run
@@ -94,7 +94,7 @@ same-length-5 c =
     let q = c .before .before in
     let a = q .before .before .before .before in
     let l = loop-of a in
-    ap length (q .put-refusal .ensures .0) ∙ length-sets (l .loop .out) (l .loop .p) (refusalText (a .part-taken .result .number) (a .part-taken .result .line)) ∙ l .loop .inv .0 .put .long
+    ap length (q .put-refusal .ensures .0) ∙ length-sets (l .loop .out) (l .loop .p) (refusalText (a .interval-of .result .number) (a .interval-of .result .line)) ∙ l .loop .inv .0 .put .long
 
 returns : tie.Need-returns Inv-loop μ-loop
 returns c =
@@ -103,30 +103,30 @@ returns c =
     let l = loop-of a in
     let w = l .loop .inv .0 in
     let e = q .put-refusal .ensures in
-    let some = positive (a .part-taken .result .number) (q .before .before .if1 .taken) in
+    let some = positive (a .interval-of .result .number) (q .before .before .if1 .taken) in
     within (stopped w (more a) (took a) some (q .put-refusal .last .0) (q .put-refusal .result .at) (e .0) (e .1 .0 .0)) (refused-room w (e .1 .0 .1)) (e .1 .1 ∙ stopped-ends w (more a) (took a) some)
 
 -- an accepted interval
-abbrev Done : tie.After-part-taken Inv-loop μ-loop → Type 0
+abbrev Done : tie.After-interval-of Inv-loop μ-loop → Type 0
 Done a =
-    Accepted (begin (loop-of a) .args .text .now) (loop-of a .loop .at) (loop-of a .loop .line) (loop-of a .loop .state) (a .part-taken .last .1 .1 .1 .0) (loop-of a .loop .verdicts)
-    (a .part-taken .last .1 .1 .1 .1 .0) (a .part-taken .result .line) (a .part-taken .result .next) (a .part-taken .result .constraints)
+    Accepted (begin (loop-of a) .args .text .now) (loop-of a .loop .at) (loop-of a .loop .line) (loop-of a .loop .state) (a .interval-of .last .1 .1 .1 .0) (loop-of a .loop .verdicts)
+    (a .interval-of .last .1 .1 .1 .1 .0) (a .interval-of .result .line) (a .interval-of .result .next) (a .interval-of .result .constraints)
 
 -- the room that is left for its page
-page-room : (a : tie.After-part-taken Inv-loop μ-loop) → Done a → loop-of a .loop .p + 163840 ≤ length (loop-of a .loop .out)
+page-room : (a : tie.After-interval-of Inv-loop μ-loop) → Done a → loop-of a .loop .p + 163840 ≤ length (loop-of a .loop .out)
 page-room a x =
     let l = loop-of a in
     let w = l .loop .inv .0 in
     omega (arith, w .few, w .put .long, begin l .pre .1 .1 .0, going-few w (more a) (x .interval) _ _ (x .read) (x .none))
 
 -- its cells are as many, and the rows are the same
-state-long : (a : tie.After-part-taken Inv-loop μ-loop) → Done a → length (a .part-taken .last .1 .1 .1 .0) ≡ length (loop-of a .loop .state)
+state-long : (a : tie.After-interval-of Inv-loop μ-loop) → Done a → length (a .interval-of .last .1 .1 .1 .0) ≡ length (loop-of a .loop .state)
 state-long a x = ap length (x .written) ∙ standing-length (loop-of a .loop .state) (x .interval) (x .none)
 
-same-rows : (a : tie.After-part-taken Inv-loop μ-loop) → Done a → rowsIn (loop-of a .loop .state) ≡ rowsIn (a .part-taken .last .1 .1 .1 .0)
+same-rows : (a : tie.After-interval-of Inv-loop μ-loop) → Done a → rowsIn (loop-of a .loop .state) ≡ rowsIn (a .interval-of .last .1 .1 .1 .0)
 same-rows a x = sym (ap rowsIn (x .written) ∙ standing-rows (loop-of a .loop .state) (x .interval) (x .none))
 
-same-market : (a : tie.After-part-taken Inv-loop μ-loop) → Done a → marketIn (loop-of a .loop .state) .resources ≡ marketIn (a .part-taken .last .1 .1 .1 .0) .resources
+same-market : (a : tie.After-interval-of Inv-loop μ-loop) → Done a → marketIn (loop-of a .loop .state) .resources ≡ marketIn (a .interval-of .last .1 .1 .1 .0) .resources
 same-market a x = ap (λ (m : Market). m .resources) (sym (ap marketIn (x .written) ∙ standing-market (loop-of a .loop .state) (x .interval) (x .none)))
 
 put-verdicts-requires : tie.Need-put-verdicts-requires Inv-loop μ-loop
@@ -135,13 +135,13 @@ put-verdicts-requires c κs =
     omega (arith, page-room a (accepting (took a) (c .before .before .if1 .left)))
 
 -- what is printed of the verdicts
-abbrev first : tie.After-part-taken Inv-loop μ-loop → List ℕ
-first a = verdictText (loop-of a .loop .i) (a .part-taken .result .constraints) (verdictsIn (a .part-taken .last .1 .1 .1 .1 .0))
+abbrev first : tie.After-interval-of Inv-loop μ-loop → List ℕ
+first a = verdictText (loop-of a .loop .i) (a .interval-of .result .constraints) (verdictsIn (a .interval-of .last .1 .1 .1 .1 .0))
 
 -- and of the curves
-abbrev second : tie.After-part-taken Inv-loop μ-loop → List ℕ
+abbrev second : tie.After-interval-of Inv-loop μ-loop → List ℕ
 second a =
-    let state = a .part-taken .last .1 .1 .1 .0 in
+    let state = a .interval-of .last .1 .1 .1 .0 in
     curveText (loop-of a .loop .i) (marketIn state .resources) (rowsIn state) (standingIn state .floors)
 
 put-curves-requires : tie.Need-put-curves-requires Inv-loop μ-loop
@@ -176,11 +176,11 @@ loop-less : tie.Need-loop-less Inv-loop μ-loop
 loop-less c = omega (arith, turn c .loop .inv .0 .high)
 
 -- the page of an accepted interval
-page-is : (a : tie.After-part-taken Inv-loop μ-loop) → (x : Done a) → first a ++ second a ≡ pageOf (loop-of a .loop .i) (hourIn (loop-of a .loop .state) .hour) (x .interval)
+page-is : (a : tie.After-interval-of Inv-loop μ-loop) → (x : Done a) → first a ++ second a ≡ pageOf (loop-of a .loop .i) (hourIn (loop-of a .loop .state) .hour) (x .interval)
 page-is a x =
     let l = loop-of a in
     let m = marketIn (l .loop .state) in
-    let w : hourIn (a .part-taken .last .1 .1 .1 .0) .hour ≡ hourAfter (hourIn (l .loop .state) .hour) (x .interval)
+    let w : hourIn (a .interval-of .last .1 .1 .1 .0) .hour ≡ hourAfter (hourIn (l .loop .state) .hour) (x .interval)
     = ap (λ (k : List ℤ). hourIn k .hour) (x .written) ∙ hour-after (l .loop .state) (x .interval) (omega (arith, l .loop .inv .1 .0, begin l .pre .1 .0 .0)) (x .none) in
     let e = ap₂ (λ (n : ℕ) (k : List ℤ). verdictText (l .loop .i) n (verdictsIn k)) (x .many) (x .judged) ∙ printed-alike m (standingIn (l .loop .state)) (x .interval) (l .loop .verdicts) (l .loop .i) (omega (arith, l .loop .inv .1 .1 .0)) (x .none) in
     ap₂ (λ (t : List ℕ) (h : Hour). t ++ curveText (l .loop .i) (h .market .resources) (h .rows) (h .standing .floors)) e w
@@ -197,7 +197,7 @@ loop-again c =
     let put : k .put-curves .last .0 ≡ sets (l .loop .out) (l .loop .p) (first a ++ second a)
     = q .buffer ∙ ap₂ (λ (o : List ℕ) (j : ℕ). sets o j (second a)) (p .0) (p .1 .0) ∙ sym (sets-append (l .loop .out) (l .loop .p) (first a) (second a)) in
     let next : k .put-curves .result ≡ l .loop .p + length (first a ++ second a) = omega (arith, p .1 .0, q .next, length-append (first a) (second a)) in (
-      going-next (l .loop .inv .0) (more a) (x .interval) (a .part-taken .result .line) (a .part-taken .result .next) (x .read) (x .none) (hourIn (a .part-taken .last .1 .1 .1 .0) .hour) (k .put-curves .last .0)
+      going-next (l .loop .inv .0) (more a) (x .interval) (a .interval-of .result .line) (a .interval-of .result .next) (x .read) (x .none) (hourIn (a .interval-of .last .1 .1 .1 .0) .hour) (k .put-curves .last .0)
           (k .put-curves .result)
           (ap (λ (z : List ℤ). hourIn z .hour) (x .written) ∙ hour-after (l .loop .state) (x .interval) (omega (arith, l .loop .inv .1 .0, begin l .pre .1 .0 .0)) (x .none))
           (put ∙ ap (sets (l .loop .out) (l .loop .p)) (page-is a x)) (next ∙ ap (λ (t : List ℕ). l .loop .p + length t) (page-is a x)) (omega (arith, p .1 .1, q .few)),

@@ -1,0 +1,2 @@
+-- Laws that the walks share.
+pub mod Facts

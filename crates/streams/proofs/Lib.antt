@@ -1,0 +1,2 @@
+-- Laws that the proofs of the code use.
+pub mod StreamLaws
