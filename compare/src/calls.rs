@@ -2,7 +2,7 @@
 //! each call the hour is asked for everything it can tell.
 
 use independent::curve;
-use independent::generate::calls::{case, Case};
+use independent::generate::calls::Case;
 use independent::hour::{self, Source};
 use independent::passes::{Call, RealTime};
 use independent::print::by_weight;
@@ -249,11 +249,10 @@ fn show(seed: u64, case: &Case, engine: &Result<Vec<Answer>, u8>, literal: &Resu
     println!("  independent {:?}", literal[first]);
 }
 
-/// How many lists of these seeds differ.
-pub fn compare(seeds: impl Iterator<Item = u64>) -> usize {
+/// How many of these lists differ, each with the seed that it comes of.
+pub fn compare(lists: impl Iterator<Item = (u64, Case)>) -> usize {
     let mut found = 0;
-    for seed in seeds {
-        let case = case(seed);
+    for (seed, case) in lists {
         let (engine, literal) = (engine(&case), literal(&case));
         if engine == literal {
             continue;

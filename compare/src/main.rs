@@ -5,32 +5,18 @@
 //! A seed gives the same text, book and list each time. A text on which the two differ is shrunk and saved in `failures/`, beside both
 //! outputs; a book or a list is shown with both answers.
 
-mod books;
-mod calls;
-
+use compare::{books, calls, counted, seeds, Share};
 use independent::compare::shrink;
 use independent::generate;
 use std::fs;
 use std::path::PathBuf;
 use std::process::ExitCode;
-use std::thread;
-
-/// Threads, each with its own share of the seeds.
-const THREADS: u64 = 2;
-
-/// The engine asks for less than half of it.
-const STACK: usize = 4 << 20;
 
 /// Of the texts that differ, at most so many are shrunk and saved by each thread.
 const SAVED: usize = 3;
 
 fn differs(text: &[u8]) -> bool {
     noskjerf::print(text) != independent::run(text)
-}
-
-fn argument(index: usize, otherwise: u64) -> u64 {
-    let given = std::env::args().nth(index);
-    given.map_or(otherwise, |given| given.parse().expect("a whole number"))
 }
 
 fn save(seed: u64, text: &[u8]) {
@@ -50,7 +36,7 @@ fn save(seed: u64, text: &[u8]) {
 }
 
 /// How many texts of these seeds differ.
-fn compare(seeds: impl Iterator<Item = u64>) -> usize {
+fn texts(seeds: Share) -> usize {
     let mut found = 0;
     for seed in seeds {
         let text = generate::text(seed);
@@ -65,22 +51,19 @@ fn compare(seeds: impl Iterator<Item = u64>) -> usize {
     found
 }
 
+/// How many texts, books and lists of calls differ.
+fn differing(seeds: Share) -> [usize; 3] {
+    let lists = seeds.clone().map(|seed| (seed, generate::calls::case(seed)));
+    [texts(seeds.clone()), books::compare(seeds), calls::compare(lists)]
+}
+
 fn main() -> ExitCode {
-    let texts = argument(1, 30_000);
-    let first = argument(2, 0);
-    let share = move |thread: u64| {
-        let seeds = (first..first + texts).filter(move |seed| seed % THREADS == thread);
-        [compare(seeds.clone()), books::compare(seeds.clone()), calls::compare(seeds)]
-    };
-    let threads: Vec<_> = (0..THREADS)
-        .map(|thread| thread::Builder::new().stack_size(STACK).spawn(move || share(thread)).expect("a thread"))
-        .collect();
-    let shares: Vec<[usize; 3]> = threads.into_iter().map(|thread| thread.join().expect("no panic")).collect();
-    let [found, in_books, in_calls] = [0, 1, 2].map(|kind| shares.iter().map(|share| share[kind]).sum::<usize>());
-    println!("compare: {texts} texts, {found} differ");
-    println!("compare: {texts} books in both markets, {in_books} differ");
-    println!("compare: {texts} lists of calls, {in_calls} differ");
-    if found + in_books + in_calls == 0 {
+    let seeds = seeds();
+    let (tried, [texts, books, lists]) = (seeds.end - seeds.start, counted(&seeds, differing));
+    println!("compare: {tried} texts, {texts} differ");
+    println!("compare: {tried} books in both markets, {books} differ");
+    println!("compare: {tried} lists of calls, {lists} differ");
+    if texts + books + lists == 0 {
         ExitCode::SUCCESS
     } else {
         ExitCode::FAILURE

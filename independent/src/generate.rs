@@ -10,7 +10,7 @@ mod edges;
 mod hours;
 mod limits;
 mod model;
-mod random;
+pub mod random;
 mod resources;
 mod room;
 

@@ -3,7 +3,10 @@
 from __future__ import annotations
 
 import functools
+import importlib.util
+import pkgutil
 import re
+from collections.abc import Iterator
 from dataclasses import dataclass
 from pathlib import Path
 from typing import TYPE_CHECKING
@@ -35,9 +38,14 @@ SENTENCES = {
     21: "the market's list of gas prices ends inside a pair, its days do not rise, or it has no entry up to the trading day",
 }
 
+# A pack, which stands above the engine and is installed beside this package, is a package called so and more. Its refusals have entries in a REFUSALS.md of its
+# own, of the form of docs/REFUSALS.md but for the sentence, which stands below the title.
+PACK = "noskjerf_"
+DOCUMENT = "REFUSALS.md"
+
 
 class Refusal(Exception):
-    """Why the engine refused a text or a call: a number from 1 to 21 of docs/REFUSALS.md.
+    """Why the engine refused a text or a call: a number from 1 to 21 of docs/REFUSALS.md; or why a pack did, with a number of its own.
 
     `part` is what was refused: of a text "opening" or "interval 1" and so on, "text" where it is too long (18); of a call "bid",
     "costs", "book", "opening", "interval 1" and so on, "pass" or "hour". `line` is the line of the text, from 1 on, and None for a call.
@@ -74,7 +82,7 @@ class Refusal(Exception):
     @property
     def sentence(self) -> str:
         """The reason alone, as a sentence for a person."""
-        known = SENTENCES.get(self.number, "no such refusal is known")
+        known = sentence_of(self.number)
         return known if self.slip is None else self.slip.cause or known
 
     @property
@@ -99,35 +107,64 @@ class Refusal(Exception):
         return hash(self.args)
 
 
+def sentence_of(number: int) -> str:
+    """What a number says, of the engine's own or of a pack's."""
+    if number in SENTENCES:
+        return SENTENCES[number]
+    packed = _of_packs().get(number)
+    return "no such refusal is known" if packed is None else packed.sentence
+
+
 @dataclass(frozen=True)
 class Explanation:
-    """The entry of docs/REFUSALS.md for a number, as Markdown: its title, when it is told, examples and what to mend."""
+    """The entry of docs/REFUSALS.md for a number, as Markdown: its title, when it is told, examples and what to mend; and its sentence."""
 
     number: int
     title: str
     when: str
     examples: str
     mend: str
+    sentence: str
 
 
 def explain(number: int) -> Explanation:
-    """The entry of docs/REFUSALS.md for a number. Raises KeyError where there is none.
+    """The entry of docs/REFUSALS.md for a number, or of a pack that is installed. Raises KeyError where there is none.
 
     >>> explain(18).title
     'length'
     """
-    return _entries()[number]
+    own = _own()
+    return own[number] if number in own else _of_packs()[number]
 
 
 @functools.lru_cache(maxsize=None)
-def _entries() -> dict[int, Explanation]:
-    _, *sections = re.split(r"^## (?=\d)", Path(__file__).with_name("REFUSALS.md").read_text("utf-8"), flags=re.MULTILINE)
-    return {entry.number: entry for entry in map(_entry, sections)}
+def _own() -> dict[int, Explanation]:
+    return _entries(Path(__file__).with_name(DOCUMENT))
+
+
+@functools.lru_cache(maxsize=None)
+def _of_packs() -> dict[int, Explanation]:
+    return {number: entry for document in _packs() for number, entry in _entries(document).items()}
+
+
+def _packs() -> Iterator[Path]:
+    """The documents of all packs that Python would find. None is imported."""
+    for module in pkgutil.iter_modules():
+        spec = importlib.util.find_spec(module.name) if module.ispkg and module.name.startswith(PACK) else None
+        for folder in (spec and spec.submodule_search_locations) or ():
+            if (document := Path(folder, DOCUMENT)).is_file():
+                yield document
+
+
+def _entries(document: Path) -> dict[int, Explanation]:
+    _, *sections = re.split(r"^## ", document.read_text("utf-8"), flags=re.MULTILINE)
+    return {entry.number: entry for entry in (_entry(section) for section in sections if re.match(r"\d+: ", section))}
 
 
 def _entry(section: str) -> Explanation:
     heading, body = section.split("\n", 1)
     number, title = heading.split(": ", 1)
     told, mend = body.split("**Mend**: ")
-    when, _, examples = told.split("**When**: ")[1].partition("\n\n")
-    return Explanation(int(number), title, when.strip(), examples.strip(), mend.strip())
+    sentence, told = told.split("**When**: ")
+    when, _, examples = told.partition("\n\n")
+    return Explanation(int(number), title, when.strip(), examples.strip(), mend.strip(), SENTENCES.get(int(number), sentence.strip()))

@@ -1,7 +1,7 @@
 //! Lists of calls in numbers by seed: an opening with costs and packs, then intervals and passes in
 //! any order, refused ones among them.
 
-use super::hours;
+use super::hours::{self, Shape};
 use super::limits::{around, change_fields_of_a_part, change_relation, change_some_field};
 use super::model::{part_bytes, Model};
 use super::random::Random;
@@ -27,14 +27,18 @@ fn length(rng: &mut Random) -> usize {
     }
 }
 
-/// The tables of an hour, now and then with values at their limits or past them.
-fn model(rng: &mut Random) -> Model {
+fn shape(rng: &mut Random) -> Shape {
     let mut shape = hours::shape(rng);
     shape.intervals = length(rng);
     if shape.resources > 8 {
         shape.intervals = shape.intervals.min(6);
     }
-    let mut model = hours::hour(rng, &shape);
+    shape
+}
+
+/// The tables of an hour, now and then with values at their limits or past them.
+fn model(rng: &mut Random, shape: &Shape) -> Model {
+    let mut model = hours::hour(rng, shape);
     match rng.below(12) {
         0 => change_some_field(rng, &mut model),
         1 => change_fields_of_a_part(rng, &mut model),
@@ -340,7 +344,25 @@ fn call(rng: &mut Random, mut values: Interval, pass: bool) -> Call {
 /// Equal seeds give equal cases.
 pub fn case(seed: u64) -> Case {
     let rng = &mut Random::new(seed);
-    let model = model(rng);
+    let shape = shape(rng);
+    of_shape(rng, &shape)
+}
+
+/// A few calls on an hour of a few resources.
+pub fn small_case(rng: &mut Random) -> Case {
+    let shape = hours::shape(rng);
+    let small = Shape {
+        portfolios: shape.portfolios.min(3),
+        resources: shape.resources.min(2),
+        constraints: shape.constraints.clamp(1, 2),
+        intervals: rng.count(1, 5),
+        ..shape
+    };
+    of_shape(rng, &small)
+}
+
+fn of_shape(rng: &mut Random, shape: &Shape) -> Case {
+    let model = model(rng, shape);
     let texts: Vec<Vec<u8>> = model.parts.iter().map(part_bytes).collect();
     let opening = Reader::new(&texts[0]).opening();
     let mut opening = opening.expect("tables of the form");

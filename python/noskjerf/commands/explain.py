@@ -51,14 +51,14 @@ def _explain_number(number: str, kind: str) -> int:
         entry = explain(int(number))
     except KeyError:
         raise Trouble(f"there is no refusal {number}: they are numbered 1 to {max(SENTENCES)}; a file of that name is ./{number}") from None
-    told = {"number": entry.number, "sentence": SENTENCES[entry.number], "title": entry.title}
+    told = {"number": entry.number, "sentence": entry.sentence, "title": entry.title}
     told.update(when=entry.when, examples=entry.examples, mend=entry.mend)
     show(json.dumps(told, indent=2) + "\n" if kind == "json" else _entry_text(entry))
     return 0
 
 
 def _entry_text(entry: Explanation) -> str:
-    lines = [f"Refusal {entry.number}: {entry.title}", f"({SENTENCES[entry.number]})", ""]
+    lines = [f"Refusal {entry.number}: {entry.title}", f"({entry.sentence})", ""]
     lines += ["When", *_plain(entry.when), ""]
     if entry.examples:
         lines += ["Example (- and + mark how it differs from Case T of docs/FORMAT.md)", *_plain(entry.examples), ""]

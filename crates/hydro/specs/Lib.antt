@@ -1,0 +1,2 @@
+-- What the helpers are given.
+pub mod Given
