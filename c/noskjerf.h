@@ -41,7 +41,7 @@ extern "C" {
 /* How many numbers the last buffer of noskjerf_told has to have. */
 #define NOSKJERF_TOLD 2
 
-/* How many numbers the two buffers of noskjerf_default have to have. */
+/* How many numbers the two buffers of a default curve have to have. */
 #define NOSKJERF_EDGES 13
 #define NOSKJERF_PRICES 11
 
@@ -162,6 +162,29 @@ size_t noskjerf_gas_run(const uint32_t *day_ahead, size_t day_ahead_len, const u
 int64_t noskjerf_gas_default(const uint32_t *day_ahead, size_t day_ahead_len, const uint32_t *real_time, size_t real_time_len,
                              uint32_t market, uint32_t day, size_t count, const int64_t *points, size_t points_len, const int64_t *charges,
                              size_t charges_len, uint64_t *edges, size_t edges_len, int64_t *prices, size_t prices_len);
+
+/*
+ * Joins the two parts of a reliability contract unit's default energy bid: proxy prices up to its contract capacity, default prices above.
+ *
+ * A part starts at a quantity and has a count of steps, whose ends and prices stand in turn as in noskjerf_bid: numbers past their end
+ * count as 0, and those past the count are not looked at. The contract capacity is where the first part ends.
+ *
+ * The curve has the steps of the first part and then those of the second, each price raised to the largest before it: no price of either
+ * part is lowered, and neighbours of one price stay two steps. It serves as a pack's curve in noskjerf_open.
+ *
+ * Answers 0 and fills the buffers as noskjerf_default does. Or it answers the lowest refusal that applies to a part or to both together,
+ * and leaves the buffers as they were:
+ *   1   a step count is outside 1 to 11
+ *   2   an edge (a start or an end) is outside 0 to 1,000,000, or the edges of a part do not rise
+ *   3   a price is outside -1,000,000,000 to 1,000,000,000, or the prices of a part fall
+ *   23  the second part does not start at the first one's last end
+ *   24  the two parts have more than 11 steps together
+ * Before any of these it answers -1 where edges_len is below NOSKJERF_EDGES or prices_len below NOSKJERF_PRICES, and leaves the buffers as
+ * they were.
+ */
+int64_t noskjerf_join(int64_t proxy_start, size_t proxy_count, const int64_t *proxy_steps, size_t proxy_steps_len, int64_t above_start,
+                      size_t above_count, const int64_t *above_steps, size_t above_steps_len, uint64_t *edges, size_t edges_len,
+                      int64_t *prices, size_t prices_len);
 
 /* ---- An hour in numbers
  *

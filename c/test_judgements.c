@@ -1,4 +1,4 @@
-/* Tests of noskjerf_bid and noskjerf_default. */
+/* Tests of noskjerf_bid, noskjerf_default and noskjerf_join. */
 #include <string.h>
 
 #include "check.h"
@@ -402,6 +402,244 @@ static void test_null(void)
     CHECK(noskjerf_default(3, points_of_t, 6, NULL, 0, edges, NOSKJERF_EDGES, prices, NOSKJERF_PRICES) == 0 && prices[2] == 0);
 }
 
+/* ---- joined curves */
+
+/* A part: where it starts, how many steps it has, and the end and the price of each in turn, with room for twelve. */
+struct part {
+    int64_t start;
+    size_t count;
+    int64_t steps[24];
+};
+
+/* The answer for two parts of which the first numbers are there. */
+static int64_t join_answer(const struct part *proxy, size_t proxy_len, const struct part *above, size_t above_len)
+{
+    fill_buffers();
+    return noskjerf_join(proxy->start, proxy->count, proxy->steps, proxy_len, above->start, above->count, above->steps, above_len, edges,
+                         NOSKJERF_EDGES, prices, NOSKJERF_PRICES);
+}
+
+/* Whether the parts are refused with this number, and the buffers left alone. */
+static int parts_refused(int64_t expected, struct part proxy, struct part above)
+{
+    return join_answer(&proxy, LENGTH(proxy.steps), &above, LENGTH(above.steps)) == expected && untouched();
+}
+
+/* Whether the buffers hold this curve and 0 past its steps, and nothing past their room was written. */
+static int filled_with(const struct part *curve)
+{
+    size_t i;
+    if (edges[0] != curve->count || edges[1] != (uint64_t)curve->start) {
+        return 0;
+    }
+    for (i = 0; i < NOSKJERF_PRICES; i++) {
+        if (edges[2 + i] != (uint64_t)curve->steps[2 * i] || prices[i] != curve->steps[2 * i + 1]) {
+            return 0;
+        }
+    }
+    return edges[NOSKJERF_EDGES] == BEFORE && prices[NOSKJERF_PRICES] == BEFORE;
+}
+
+/* Whether the parts are joined to this curve. */
+static int joined_to(struct part proxy, struct part above, struct part curve)
+{
+    return join_answer(&proxy, LENGTH(proxy.steps), &above, LENGTH(above.steps)) == 0 && filled_with(&curve);
+}
+
+/* A part of `count` steps from `start` on, each 10 wide and with price 7. */
+static struct part flat(int64_t start, size_t count)
+{
+    struct part part = { 0 };
+    size_t i;
+    part.start = start;
+    part.count = count;
+    for (i = 0; i < 12; i++) {
+        part.steps[2 * i] = start + 10 * (int64_t)(i + 1);
+        part.steps[2 * i + 1] = 7;
+    }
+    return part;
+}
+
+/* A part of one step. */
+static struct part single(int64_t start, int64_t end, int64_t price)
+{
+    struct part part = { 0 };
+    part.start = start;
+    part.count = 1;
+    part.steps[0] = end;
+    part.steps[1] = price;
+    return part;
+}
+
+/* A part of two steps. */
+static struct part pair(int64_t start, int64_t end, int64_t price, int64_t next_end, int64_t next_price)
+{
+    struct part part = single(start, end, price);
+    part.count = 2;
+    part.steps[2] = next_end;
+    part.steps[3] = next_price;
+    return part;
+}
+
+/* Each price is raised to the largest before it, in the second part; prices that rise by themselves stay. */
+static void test_raised(void)
+{
+    struct part above = pair(10, 20, 3, 30, 7);
+    struct part raised = { 0, 3, { 10, 5, 20, 5, 30, 7 } };
+    struct part stays = { 0, 3, { 10, 2, 20, 3, 30, 7 } };
+    struct part both = { 0, 4, { 4, 5, 10, 6, 20, 6, 30, 7 } };
+    struct part all = { 0, 3, { 10, 8, 20, 8, 30, 8 } };
+    CHECK(joined_to(single(0, 10, 5), above, raised));
+    CHECK(joined_to(single(0, 10, 2), above, stays));
+    CHECK(joined_to(pair(0, 4, 5, 10, 6), above, both));
+    CHECK(joined_to(single(0, 10, 8), above, all));
+}
+
+/* Prices below 0 are raised like others: nothing is raised to 0. */
+static void test_negative_prices(void)
+{
+    CHECK(joined_to(single(0, 10, -3), single(10, 20, -9), pair(0, 10, -3, 20, -3)));
+    CHECK(joined_to(single(0, 10, -9), single(10, 20, -3), pair(0, 10, -9, 20, -3)));
+}
+
+/* Neighbours of one price stay two steps, and so does a step that is raised to the one before it. */
+static void test_nothing_merged(void)
+{
+    struct part eleven = flat(5, 11);
+    CHECK(joined_to(single(0, 10, 3), single(10, 20, 3), pair(0, 10, 3, 20, 3)));
+    CHECK(joined_to(flat(5, 6), flat(65, 5), eleven));
+    CHECK(joined_to(flat(5, 10), flat(105, 1), eleven));
+    CHECK(joined_to(flat(5, 1), flat(15, 10), eleven));
+}
+
+/* The curve of Case T's costs above proxy prices up to 100 MW: the first of its steps is raised. */
+static void test_default_of_t_joined(void)
+{
+    struct part of_t = { 10000, 3, { 20000, 378402, 24000, 444403, 30000, 488402 } };
+    struct part curve = { 0, 4, { 10000, 400000, 20000, 400000, 24000, 444403, 30000, 488402 } };
+    CHECK(joined_to(single(0, 10000, 400000), of_t, curve));
+}
+
+/* 1 to 3 are those of a default curve, for either part. */
+static void test_parts_checked(void)
+{
+    static const int64_t top = 1000000000;
+    CHECK(joined_to(single(0, 10, -top), single(10, 1000000, top), pair(0, 10, -top, 1000000, top)));
+    CHECK(parts_refused(1, flat(0, 0), single(0, 10, 5)));
+    CHECK(parts_refused(1, single(0, 10, 5), flat(10, 0)));
+    CHECK(parts_refused(1, flat(0, 12), single(120, 130, 7)));
+    CHECK(parts_refused(1, single(0, 10, 7), flat(10, 12)));
+    CHECK(parts_refused(2, single(-1, 10, 5), single(10, 20, 5)));
+    CHECK(parts_refused(2, single(0, 10, 5), single(10, 1000001, 5)));
+    CHECK(parts_refused(2, single(10, 10, 5), single(10, 20, 5)));
+    CHECK(parts_refused(2, single(0, 10, 5), pair(10, 20, 5, 20, 6)));
+    CHECK(parts_refused(2, single(INT64_MIN, INT64_MAX, 5), single(INT64_MAX, INT64_MIN, 5)));
+    CHECK(parts_refused(3, single(0, 10, top + 1), single(10, 20, 5)));
+    CHECK(parts_refused(3, single(0, 10, 5), single(10, 20, -top - 1)));
+    CHECK(parts_refused(3, pair(0, 5, 7, 10, 6), single(10, 20, 9)));
+    CHECK(parts_refused(3, single(0, 10, 5), pair(10, 20, 7, 30, 6)));
+    CHECK(parts_refused(3, single(0, 10, INT64_MAX), single(10, 20, INT64_MIN)));
+}
+
+/* The second part starts where the first one ends, without a gap and without an overlap. */
+static void test_parts_meet(void)
+{
+    CHECK(parts_refused(23, single(0, 10, 5), single(9, 20, 5)));
+    CHECK(parts_refused(23, single(0, 10, 5), single(11, 20, 5)));
+    CHECK(parts_refused(23, single(10, 20, 5), single(0, 10, 5)));
+    CHECK(parts_refused(23, pair(0, 5, 5, 10, 5), single(5, 20, 5)));
+    CHECK(parts_refused(23, single(0, 10, 5), single(0, 10, 5)));
+}
+
+static void test_steps_together(void)
+{
+    CHECK(parts_refused(24, flat(0, 6), flat(60, 6)));
+    CHECK(parts_refused(24, flat(0, 11), flat(110, 1)));
+    CHECK(parts_refused(24, flat(0, 1), flat(10, 11)));
+    CHECK(parts_refused(24, flat(0, 11), flat(110, 11)));
+}
+
+/* The lowest number wins, over both parts, whichever of them it is of. */
+static void test_join_order(void)
+{
+    struct part falling = pair(0, 5, 9, 10, 8), late = pair(10, 20, 9, 30, 8);
+    CHECK(parts_refused(1, falling, flat(10, 0)));
+    CHECK(parts_refused(1, flat(0, 0), late));
+    CHECK(parts_refused(1, flat(0, 12), single(9, 5, 7)));
+    CHECK(parts_refused(2, falling, pair(10, 30, 5, 20, 5)));
+    CHECK(parts_refused(2, pair(0, 10, 5, 5, 5), late));
+    CHECK(parts_refused(3, falling, single(11, 20, 5)));
+    CHECK(parts_refused(3, flat(0, 11), pair(110, 120, 9, 130, 8)));
+    CHECK(parts_refused(23, flat(0, 11), single(111, 120, 7)));
+    CHECK(parts_refused(23, flat(0, 6), flat(59, 6)));
+}
+
+/* Counts may be any number: one over 11 is refused, also where the sum of both would be small again. */
+static void test_join_counts(void)
+{
+    static const size_t counts[] = { 12, 13, 256, 65536, (size_t)UINT32_MAX + 2, SIZE_MAX / 2 + 1, SIZE_MAX - 1, SIZE_MAX };
+    size_t i;
+    for (i = 0; i < LENGTH(counts); i++) {
+        CHECK(parts_refused(1, flat(0, counts[i]), flat(10, 1)));
+        CHECK(parts_refused(1, flat(0, 1), flat(10, counts[i])));
+        CHECK(parts_refused(1, flat(0, counts[i]), flat(10, counts[i])));
+    }
+    CHECK(parts_refused(1, flat(0, SIZE_MAX), flat(10, 2)));
+}
+
+/* Numbers past the end of a part count as 0; those past its count are not looked at. */
+static void test_join_lengths(void)
+{
+    struct part proxy = { 0, 1, { 10, -5, 1, INT64_MIN } }, above = pair(10, 20, -2, 30, 4);
+    struct part whole = { 0, 3, { 10, -5, 20, -2, 30, 4 } }, free_of_price = { 0, 3, { 10, 0, 20, 0, 30, 4 } };
+    struct part last_free = { 0, 3, { 10, -5, 20, -2, 30, 0 } };
+    CHECK(join_answer(&proxy, 24, &above, 24) == 0 && filled_with(&whole));
+    CHECK(join_answer(&proxy, 2, &above, 4) == 0 && filled_with(&whole));
+    CHECK(join_answer(&proxy, 1, &above, 4) == 0 && filled_with(&free_of_price));
+    CHECK(join_answer(&proxy, 2, &above, 3) == 0 && filled_with(&last_free));
+    CHECK(join_answer(&proxy, 0, &above, 4) == 2 && untouched());
+    CHECK(join_answer(&proxy, 2, &above, 2) == 2 && untouched());
+    CHECK(join_answer(&proxy, 2, &above, 0) == 2 && untouched());
+    above.steps[3] = -3;
+    CHECK(join_answer(&proxy, 2, &above, 4) == 3 && untouched());
+}
+
+/* The answer for a part up to `end` and one step from 10 to 20, with buffers of these lengths. */
+static int64_t join_into(int64_t end, size_t edges_len, size_t prices_len)
+{
+    int64_t proxy[2] = { 0, 5 };
+    static const int64_t above[] = { 20, 5 };
+    proxy[0] = end;
+    fill_buffers();
+    return noskjerf_join(0, 1, proxy, LENGTH(proxy), 10, 1, above, LENGTH(above), edges, edges_len, prices, prices_len);
+}
+
+/* A buffer that is too small is answered before anything else, and both are left alone; what a longer one has past its room stays. */
+static void test_join_buffers(void)
+{
+    struct part curve = pair(0, 10, 5, 20, 5);
+    CHECK(join_into(10, NOSKJERF_EDGES + 1, NOSKJERF_PRICES + 1) == 0 && filled_with(&curve));
+    CHECK(join_into(10, NOSKJERF_EDGES - 1, NOSKJERF_PRICES) == -1 && untouched());
+    CHECK(join_into(10, NOSKJERF_EDGES, NOSKJERF_PRICES - 1) == -1 && untouched());
+    CHECK(join_into(10, 0, 0) == -1 && untouched());
+    CHECK(join_into(0, NOSKJERF_EDGES - 1, NOSKJERF_PRICES) == -1 && untouched());
+    CHECK(join_into(9, NOSKJERF_EDGES, NOSKJERF_PRICES - 1) == -1 && untouched());
+    CHECK(join_into(9, NOSKJERF_EDGES, NOSKJERF_PRICES) == 23 && untouched());
+}
+
+/* A pointer with length 0 may be null. */
+static void test_join_null(void)
+{
+    static const int64_t steps[] = { 10, 5 };
+    fill_buffers();
+    CHECK(noskjerf_join(0, 0, NULL, 0, 0, 0, NULL, 0, edges, NOSKJERF_EDGES, prices, NOSKJERF_PRICES) == 1 && untouched());
+    CHECK(noskjerf_join(-1, 1, NULL, 0, 0, 1, steps, 2, edges, NOSKJERF_EDGES, prices, NOSKJERF_PRICES) == 2 && untouched());
+    CHECK(noskjerf_join(0, 1, steps, 2, 10, 1, NULL, 0, edges, NOSKJERF_EDGES, prices, NOSKJERF_PRICES) == 2 && untouched());
+    CHECK(noskjerf_join(0, 1, steps, 2, 10, 1, steps, 2, NULL, 0, prices, NOSKJERF_PRICES) == -1 && untouched());
+    CHECK(noskjerf_join(0, 1, steps, 2, 10, 1, steps, 2, edges, NOSKJERF_EDGES, NULL, 0) == -1 && untouched());
+    CHECK(noskjerf_join(0, 1, NULL, 0, 0, 1, NULL, 0, NULL, 0, NULL, 0) == -1);
+}
+
 int main(void)
 {
     test_step_count();
@@ -426,5 +664,17 @@ int main(void)
     test_short_points();
     test_short_charges();
     test_null();
+    test_raised();
+    test_negative_prices();
+    test_nothing_merged();
+    test_default_of_t_joined();
+    test_parts_checked();
+    test_parts_meet();
+    test_steps_together();
+    test_join_order();
+    test_join_counts();
+    test_join_lengths();
+    test_join_buffers();
+    test_join_null();
     return report("test_judgements");
 }

@@ -1,4 +1,4 @@
-/* test_stack FILE..: how much stack a run of the texts in the files takes, and the calls of an hour in numbers: no more than the header says. */
+/* test_stack FILE..: how much stack a run of the texts in the files takes, an hour in numbers and a joined curve: no more than the header says. */
 #define _GNU_SOURCE
 #include <pthread.h>
 #include <stdlib.h>
@@ -57,6 +57,18 @@ static void *call_hour(void *answer)
     return NULL;
 }
 
+/* Two parts of eleven steps together; they are joined. */
+static void *call_join(void *answer)
+{
+    static const int64_t proxy[] = { 1, 5, 2, 5, 3, 5, 4, 5, 5, 5, 6, 5 }, above[] = { 7, 4, 8, 4, 9, 4, 10, 6, 11, 6 };
+    static uint64_t edges[NOSKJERF_EDGES];
+    static int64_t prices[NOSKJERF_PRICES];
+    int64_t refused = noskjerf_join(0, 6, proxy, 12, 6, 5, above, 10, edges, NOSKJERF_EDGES, prices, NOSKJERF_PRICES);
+
+    *(int64_t *)answer = refused == 0 ? 0 : -1;
+    return NULL;
+}
+
 /* ---- how much it takes */
 
 /* How many bytes of the stack a thread with this call has touched; its answer has to be 0 or more. */
@@ -111,7 +123,7 @@ static size_t most_of_runs(int count, char **names)
 
 int main(int argc, char **argv)
 {
-    size_t most, hour;
+    size_t most, hour, join;
 
     if (posix_memalign((void **)&stack, 4096, THREAD_STACK) != 0) {
         return 1;
@@ -123,6 +135,9 @@ int main(int argc, char **argv)
     hour = taken(call_hour);
     printf("test_stack: an hour in numbers takes %zu bytes of stack\n", hour);
     CHECK(hour > 0 && hour <= NOSKJERF_STACK);
+    join = taken(call_join);
+    printf("test_stack: a joined curve takes %zu bytes of stack\n", join);
+    CHECK(join <= NOSKJERF_STACK);
     free(stack);
     return report("test_stack");
 }

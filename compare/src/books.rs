@@ -1,5 +1,6 @@
 //! Books of gas prices, asked in both markets through the engine's static library and through the independent implementation.
 
+use crate::calls::small;
 use independent::gas::{self, MARKETS};
 use independent::generate::books::{case, Case};
 use noskjerf::judgement::{Charges, Point};
@@ -15,10 +16,6 @@ struct Answer {
     price: Result<u32, u8>,
     /// The default curve on the costs: its start, and the end and price of each step.
     curve: Result<(i128, Vec<(i128, i128)>), u8>,
-}
-
-fn small(number: i128) -> i64 {
-    number.try_into().expect("a number of 64 bits")
 }
 
 /// The costs as the engine takes them.

@@ -1,6 +1,7 @@
 //! Lists of calls in numbers, through the engine's static library and through the independent implementation. After the opening and after
 //! each call the hour is asked for everything it can tell.
 
+use independent::contract::Contract;
 use independent::curve;
 use independent::generate::calls::Case;
 use independent::hour::{self, Source};
@@ -8,14 +9,14 @@ use independent::passes::{Call, RealTime};
 use independent::print::by_weight;
 use independent::verdict;
 use noskjerf::hour::{Costs, Hour, Interval, Opening, Resource};
-use noskjerf::judgement::{Charges, DefaultCurve};
+use noskjerf::judgement::{join, Charges, DefaultCurve};
 use noskjerf::{Finding, Refused, Step};
 
 /// Of the lists that differ, at most so many are shown by each thread.
 const SHOWN: usize = 3;
 
 /// A start, and the end and price of each step.
-type Curve = (i128, Vec<(i128, i128)>);
+pub type Curve = (i128, Vec<(i128, i128)>);
 
 /// The number of the finding, demand, left, and the sellers with what they withhold.
 type Verdict = (u8, i128, i128, Vec<(usize, i128)>);
@@ -41,7 +42,7 @@ struct Answer {
 
 // ---- the engine
 
-fn small(number: i128) -> i64 {
+pub fn small(number: i128) -> i64 {
     number.try_into().expect("a number of 64 bits")
 }
 
@@ -68,15 +69,29 @@ fn steps_of(curve: &curve::Curve) -> Vec<Step> {
     curve.steps.iter().map(step).collect()
 }
 
+pub fn default_curve(curve: &curve::Curve) -> DefaultCurve {
+    DefaultCurve {
+        start: small(curve.start),
+        steps: steps_of(curve),
+    }
+}
+
+/// The engine's own join of a contracted unit's parts; a refused one has no step, with which no hour is opened.
+fn joined(contract: &Contract) -> DefaultCurve {
+    let none = DefaultCurve {
+        start: 0,
+        steps: Vec::new(),
+    };
+    join(&default_curve(&contract.proxy), &default_curve(&contract.above)).unwrap_or(none)
+}
+
 fn resource(offer: &hour::Offer) -> Resource {
     let resource = Resource::new(small(offer.portfolio), small(offer.bid.start));
     let bid = steps_of(&offer.bid).iter().fold(resource, |bid, step| bid.step(step.end, step.price));
     match &offer.source {
         Source::Costs(points, charges) => bid.costs(costs(points, charges)),
-        Source::Pack(curve) => bid.pack(DefaultCurve {
-            start: small(curve.start),
-            steps: steps_of(curve),
-        }),
+        Source::Pack(curve) => bid.pack(default_curve(curve)),
+        Source::Contract(contract) => bid.pack(joined(contract)),
     }
 }
 
@@ -111,7 +126,7 @@ fn number(refused: Refused) -> u8 {
     refused.number
 }
 
-fn curve_of(start: i64, steps: &[Step]) -> Curve {
+pub fn curve_of(start: i64, steps: &[Step]) -> Curve {
     (
         start.into(),
         steps.iter().map(|step| (step.end.into(), step.price.into())).collect(),
@@ -186,7 +201,7 @@ fn engine(case: &Case) -> Result<Vec<Answer>, u8> {
 
 // ---- the independent implementation
 
-fn literal_curve(curve: &curve::Curve) -> Curve {
+pub fn literal_curve(curve: &curve::Curve) -> Curve {
     (curve.start, curve.steps.iter().map(|step| (step.end, step.price)).collect())
 }
 

@@ -2,6 +2,7 @@
 
 pub mod books;
 pub mod calls;
+pub mod contracts;
 
 use std::iter::StepBy;
 use std::ops::Range;

@@ -1,11 +1,11 @@
 //! Runs generated texts through the engine's static library and through the independent implementation, and compares what they print, byte
-//! for byte; then as many books of gas prices, and compares what they answer in both markets; then as many lists of calls in numbers, and
-//! compares what every call answers: `compare [TEXTS] [FIRST SEED]`.
+//! for byte; then as many books of gas prices, and compares what they answer in both markets; then as many pairs of parts of a contracted
+//! unit's curve, joined; then as many lists of calls in numbers, and compares what every call answers: `compare [TEXTS] [FIRST SEED]`.
 //!
-//! A seed gives the same text, book and list each time. A text on which the two differ is shrunk and saved in `failures/`, beside both
-//! outputs; a book or a list is shown with both answers.
+//! A seed gives the same text, book, pair and list each time. A text on which the two differ is shrunk and saved in `failures/`, beside both
+//! outputs; a book, a pair or a list is shown with both answers.
 
-use compare::{books, calls, counted, seeds, Share};
+use compare::{books, calls, contracts, counted, seeds, Share};
 use independent::compare::shrink;
 use independent::generate;
 use std::fs;
@@ -51,19 +51,27 @@ fn texts(seeds: Share) -> usize {
     found
 }
 
-/// How many texts, books and lists of calls differ.
-fn differing(seeds: Share) -> [usize; 3] {
+/// What is compared, as many of each.
+const KINDS: [&str; 4] = ["texts", "books in both markets", "pairs of parts", "lists of calls"];
+
+/// How many of each kind differ.
+fn differing(seeds: Share) -> [usize; KINDS.len()] {
     let lists = seeds.clone().map(|seed| (seed, generate::calls::case(seed)));
-    [texts(seeds.clone()), books::compare(seeds), calls::compare(lists)]
+    [
+        texts(seeds.clone()),
+        books::compare(seeds.clone()),
+        contracts::compare(seeds),
+        calls::compare(lists),
+    ]
 }
 
 fn main() -> ExitCode {
     let seeds = seeds();
-    let (tried, [texts, books, lists]) = (seeds.end - seeds.start, counted(&seeds, differing));
-    println!("compare: {tried} texts, {texts} differ");
-    println!("compare: {tried} books in both markets, {books} differ");
-    println!("compare: {tried} lists of calls, {lists} differ");
-    if texts + books + lists == 0 {
+    let (tried, found) = (seeds.end - seeds.start, counted(&seeds, differing));
+    for (kind, differ) in KINDS.iter().zip(found) {
+        println!("compare: {tried} {kind}, {differ} differ");
+    }
+    if found.iter().sum::<usize>() == 0 {
         ExitCode::SUCCESS
     } else {
         ExitCode::FAILURE

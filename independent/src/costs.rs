@@ -1,6 +1,6 @@
 //! Default curve from costs (39.7.1.1.1.1).
 
-use crate::curve::{Curve, Step};
+use crate::curve::{raised, Curve, Step};
 use crate::numbers::{is_quantity, strictly_rise, up, within, Refusal};
 
 /// "quantity m strictly rising, average heat rate h, 1 to 100,000 Btu/kWh"
@@ -133,11 +133,6 @@ fn own_price(pieces: &[Piece], index: usize, costs: &Costs) -> i128 {
         + costs.soc
         + fee_part(piece.to - piece.from, costs);
     up(11 * cost, 10)
-}
-
-/// "Last, each step price is raised to the largest before it."
-fn raised(own_prices: &[i128], index: usize) -> i128 {
-    *own_prices[..=index].iter().max().unwrap()
 }
 
 /// Refusals 4 to 7; the lowest number wins.

@@ -2,6 +2,7 @@
 
 pub mod books;
 pub mod calls;
+pub mod contracts;
 pub mod edges;
 
 use crate::curve::Curve;

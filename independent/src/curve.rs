@@ -65,21 +65,22 @@ impl Curve {
 
     /// Refusals 1 to 3; the lowest number wins.
     pub fn check(&self, most: i128, lowest: i128, highest: i128) -> Result<(), Refusal> {
-        // 1: "step count outside 1 to 10"
-        if !within(self.steps.len() as i128, 1, most) {
-            return Err(1);
-        }
-        // 2: "an edge outside 0 to 1,000,000, or edges not rising"
-        let edges = self.edges();
-        if !edges.iter().all(|&edge| is_quantity(edge)) || !strictly_rise(&edges) {
-            return Err(2);
-        }
-        // 3: "price outside its range, or falling"
-        let prices = self.prices();
-        if !prices.iter().all(|&price| within(price, lowest, highest)) || !never_fall(&prices) {
-            return Err(3);
-        }
-        Ok(())
+        let applies = self.refusals(most, lowest, highest);
+        let number = (1..).zip(applies).find(|&(_, applies)| applies);
+        number.map_or(Ok(()), |(number, _)| Err(number))
+    }
+
+    /// Whether each of 1 to 3 applies.
+    pub fn refusals(&self, most: i128, lowest: i128, highest: i128) -> [bool; 3] {
+        let (edges, prices) = (self.edges(), self.prices());
+        [
+            // 1: "step count outside 1 to 10"
+            !within(self.steps.len() as i128, 1, most),
+            // 2: "an edge outside 0 to 1,000,000, or edges not rising"
+            !edges.iter().all(|&edge| is_quantity(edge)) || !strictly_rise(&edges),
+            // 3: "price outside its range, or falling"
+            !prices.iter().all(|&price| within(price, lowest, highest)) || !never_fall(&prices),
+        ]
     }
 }
 
@@ -94,6 +95,12 @@ pub fn check_default(default_energy_bid: &Curve) -> Result<(), Refusal> {
         -FURTHEST_DEFAULT_PRICE,
         FURTHEST_DEFAULT_PRICE,
     )
+}
+
+/// "each step price is raised to the largest before it"; "then raise each price to the largest
+/// before it"
+pub fn raised(prices: &[i128], index: usize) -> i128 {
+    *prices[..=index].iter().max().unwrap()
 }
 
 /// "Neighbouring steps with one price are merged."

@@ -1,5 +1,6 @@
 //! Interval and hour (31.2.3, 34.1.5).
 
+use crate::contract::Contract;
 use crate::costs::{default_curve, has_split, mark, Costs, Point};
 use crate::curve::{check_bid, check_default, merged, Curve, Step};
 use crate::numbers::{is_quantity, up, within, Refusal, MILLION};
@@ -12,6 +13,8 @@ use crate::verdict::{
 pub enum Source {
     Costs(Vec<Point>, Costs),
     Pack(Curve),
+    /// "The joined curve serves as a default curve in opening."
+    Contract(Contract),
 }
 
 /// A resource as the opening brings it.
@@ -110,6 +113,7 @@ impl Source {
         let curve = match self {
             Source::Costs(points, costs) => default_curve(points, costs)?,
             Source::Pack(curve) => curve.clone(),
+            Source::Contract(contract) => contract.join()?,
         };
         check_default(&curve)?;
         Ok(curve)
@@ -125,7 +129,7 @@ impl Source {
                     points.iter().any(|point| point.m == mark),
                 )
             }
-            Source::Pack(_) => (false, false),
+            Source::Pack(_) | Source::Contract(_) => (false, false),
         }
     }
 }

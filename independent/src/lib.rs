@@ -1,6 +1,7 @@
 //! Local market power mitigation, worked out word by word from the definitions.
 
 pub mod compare;
+pub mod contract;
 pub mod costs;
 pub mod coverage;
 pub mod curve;

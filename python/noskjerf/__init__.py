@@ -3,7 +3,7 @@
 A text holds the tables that open a trading hour and those of its intervals (docs/FORMAT.md). `run` runs a text: each accepted interval
 gives a `Page` with the verdict on every constraint, the sellers named and the bid curves after mitigation. What is wrong with a text is a
 `Refusal`, a number and a line (docs/REFUSALS.md). `Hour` drives an hour in numbers; `bid` judges one bid, `default_curve` works out one
-default energy bid, and `Book` takes the gas price for it from published prices.
+default energy bid, `join` joins the two parts of a contracted unit's, and `Book` takes the gas price from published prices.
 
 >>> text = '''month
 ... 25
@@ -45,7 +45,7 @@ from .amounts import dollars, mw
 from .form import Slip
 from .gas import Book, Entry, Market
 from .hour import Hour
-from .judgement import bid, default_curve
+from .judgement import bid, default_curve, join
 from .parts import Parts, interval_of, opening_of, read, write
 from .records import (
     Cause,
@@ -103,6 +103,7 @@ __all__ = [
     "dollars",
     "explain",
     "interval_of",
+    "join",
     "mw",
     "opening_of",
     "read",

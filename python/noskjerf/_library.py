@@ -24,6 +24,7 @@ _U8 = POINTER(c_uint8)
 _STATE = [_I64, c_size_t]
 _BOOK = [_U32, c_size_t, _U32, c_size_t, c_uint32, c_uint32]
 _COSTS = [c_size_t, _I64, c_size_t, _I64, c_size_t]
+_PART = [c_int64, c_size_t, _I64, c_size_t]
 _CURVE = [_U64, c_size_t, _I64, c_size_t]
 _INTERVAL = [c_size_t, _I64, c_size_t, c_size_t, _I64, c_size_t, _I64, c_size_t, c_int64]
 
@@ -35,6 +36,7 @@ TEXT_FUNCTIONS: dict[str, _Signature] = {
     "noskjerf_told": (c_int64, [c_char_p, c_size_t, _U8, c_size_t, _U64, c_size_t]),
     "noskjerf_bid": (c_uint64, [c_uint64, c_int64, c_size_t, _I64, c_size_t]),
     "noskjerf_default": (c_int64, [*_COSTS, *_CURVE]),
+    "noskjerf_join": (c_int64, [*_PART, *_PART, *_CURVE]),
     "noskjerf_gas_run": (c_size_t, _BOOK),
     "noskjerf_gas_default": (c_int64, [*_BOOK, *_COSTS, *_CURVE]),
 }

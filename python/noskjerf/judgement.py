@@ -1,4 +1,4 @@
-"""Judgements on one bid or one table of costs, without a text."""
+"""Judgements on one bid or one table of costs, and the two parts of a curve joined, without a text."""
 
 from __future__ import annotations
 
@@ -20,10 +20,10 @@ def bid(month: Number, start: Number, steps: Table[Step]) -> None:
     >>> bid(13, 10000, [(15000, 300000), (30000, 5000001)])
     >>> bid(12, 10000, [(15000, 300000), (30000, 5000001)])
     Traceback (most recent call last):
-    noskjerf.refusal.Refusal: bid: a bid price is outside the range that the month allows (a pack's outside its own), or the prices fall (refusal 3)
+    noskjerf.refusal.Refusal: bid: a bid price is outside the range that the month allows (a default price outside its own), or the prices fall (refusal 3)
     """
     taken = steps_of(steps)
-    numbers = [number for step in taken for number in (step.end, step.price)]
+    numbers = _ends_and_prices(taken)
     answer = call("noskjerf_bid", whole("month", month, 0, TOP_U64), whole("start", start), len(taken), cells(numbers), len(numbers))
     if answer:
         raise Refusal(answer, "bid")
@@ -37,6 +37,49 @@ def default_curve(points: Table[Point], charges: Charges) -> Curve:
     (10000, [(20000, 378402), (24000, 444403), (30000, 488402)])
     """
     return filled("noskjerf_default", (), costs(points, charges), 11, "costs")
+
+
+def join(proxy: Curve, above: Curve) -> Curve:
+    """Joins the two parts of a reliability contract unit's default energy bid: proxy prices up to its contract capacity, which is where the
+    first part ends, and default prices above it.
+
+    The curve has the steps of both, each price raised to the largest before it: no price of either part is lowered, and neighbours of one
+    price stay two steps. Raises the lowest Refusal that applies: 1 to 3 of either part, 23 where the second doesn't start at the first
+    one's last end, 24 where they have more than 11 steps together.
+
+    Proxy prices up to 100 MW below Case T's default energy bid, whose first price is raised:
+
+    >>> points = [(10000, 10000), (20000, 9000), (30000, 9500)]
+    >>> above = default_curve(points, Charges(gas=40000, om=20000, msc=1000, soc=3000, fee=50))
+    >>> joined = join(Curve(0, [(10000, 400000)]), above)
+    >>> [(step.end, step.price) for step in joined.steps]
+    [(10000, 400000), (20000, 400000), (24000, 444403), (30000, 488402)]
+    >>> join(Curve(0, [(9999, 400000)]), above)
+    Traceback (most recent call last):
+    noskjerf.refusal.Refusal: join: the second part does not start at the first one's last end (refusal 23)
+
+    It serves as the default energy bid of a resource, here in Case T's hour:
+
+    >>> from noskjerf import Hour, Interval, Opening, Resource
+    >>> unit = Resource(portfolio=0, bid=Curve(10000, [(15000, 300000), (30000, 900000)]), default=joined)
+    >>> hour = Hour.open(Opening(month=25, sellers=[1], resources=[unit]))
+    >>> judged = hour.interval(Interval([500000], [600000], [20000], [30000], [0], [(0, 0, -500000)], parameter=100))
+    >>> [(step.end, step.price) for step in hour.curve(0).steps]
+    [(15000, 300000), (20000, 400000), (24000, 444403), (30000, 488402)]
+    """
+    return filled("noskjerf_join", _part("proxy", proxy), _part("above", above), 11, "join")
+
+
+def _part(what: str, curve: Curve) -> tuple[Any, ...]:
+    """A part of a joined curve as the engine takes it: its start, how many steps, end and price in turn."""
+    of_kind(what, curve, Curve)
+    numbers = _ends_and_prices(curve.steps)
+    return curve.start, len(curve.steps), cells(numbers), len(numbers)
+
+
+def _ends_and_prices(steps: tuple[Step, ...]) -> list[int]:
+    """End and price of each step in turn."""
+    return [number for step in steps for number in (step.end, step.price)]
 
 
 def costs(points: Table[Point], charges: Charges) -> tuple[Any, ...]:

@@ -15,9 +15,9 @@ if TYPE_CHECKING:
     from .form import Slip
 
 SENTENCES = {
-    1: "a bid has no step, or more than 10 (a pack's curve 11)",
-    2: "an edge of a bid (or of a pack's curve) is outside 0 to 1,000,000, or its edges do not rise",
-    3: "a bid price is outside the range that the month allows (a pack's outside its own), or the prices fall",
+    1: "a bid has no step, or more than 10 (a default curve 11)",
+    2: "an edge of a bid (or of a default curve) is outside 0 to 1,000,000, or its edges do not rise",
+    3: "a bid price is outside the range that the month allows (a default price outside its own), or the prices fall",
     4: "a resource has fewer than 2 cost points, or more than 11",
     5: "the quantity of a cost point is outside 0 to 1,000,000, or the quantities do not rise",
     6: "a heat rate is outside 1 to 100,000",
@@ -36,6 +36,8 @@ SENTENCES = {
     19: "no interval is accepted yet, or three passes are accepted since the last",
     20: "fewer than four intervals are accepted",
     21: "the market's list of gas prices ends inside a pair, its days do not rise, or it has no entry up to the trading day",
+    23: "the second part does not start at the first one's last end",
+    24: "the two parts have more than 11 steps together",
 }
 
 # A pack, which stands above the engine and is installed beside this package, is a package called so and more. Its refusals have entries in a REFUSALS.md of its
@@ -45,10 +47,10 @@ DOCUMENT = "REFUSALS.md"
 
 
 class Refusal(Exception):
-    """Why the engine refused a text or a call: a number from 1 to 21 of docs/REFUSALS.md; or why a pack did, with a number of its own.
+    """Why the engine refused a text or a call: a number of docs/REFUSALS.md; or why a pack did, with a number of its own.
 
     `part` is what was refused: of a text "opening" or "interval 1" and so on, "text" where it is too long (18); of a call "bid",
-    "costs", "book", "opening", "interval 1" and so on, "pass" or "hour". `line` is the line of the text, from 1 on, and None for a call.
+    "costs", "join", "book", "opening", "interval 1" and so on, "pass" or "hour". `line` is the line of the text, from 1 on, and None for a call.
     For 17 it is the faulty line, or the one after the last where the text ends early; else the last line of the part. `text` is the
     refused text, where it isn't too long; two refusals are the same whatever their texts.
 

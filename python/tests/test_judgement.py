@@ -61,7 +61,7 @@ def test_a_bid_is_judged(month: int, start: int, steps: Any, number: int) -> Non
 def test_a_refused_bid_says_why() -> None:
     with pytest.raises(Refusal) as raised:
         bid(25, 0, [])
-    assert str(raised.value) == "bid: a bid has no step, or more than 10 (a pack's curve 11) (refusal 1)"
+    assert str(raised.value) == "bid: a bid has no step, or more than 10 (a default curve 11) (refusal 1)"
 
 
 def test_case_t_has_its_default_energy_bid() -> None:

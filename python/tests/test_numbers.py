@@ -8,7 +8,7 @@ from fractions import Fraction
 from typing import Any, Callable
 
 import pytest
-from noskjerf import Book, Charges, Curve, Entry, Factor, Interval, Market, Opening, Point, Resource, Step, bid, default_curve
+from noskjerf import Book, Charges, Curve, Entry, Factor, Interval, Market, Opening, Point, Resource, Step, bid, default_curve, join
 from noskjerf._numbers import column, whole
 
 WRONG = [
@@ -36,6 +36,7 @@ WRONG = [
 ]
 
 POINTS = [(0, 1), (10, 1)]
+PART = Curve(0, [(10, 1)])
 INTERVAL = Interval((1,), (1,), (1,), (1,), (1,))
 BOOK = Book([(1, 1)], [(1, 1)])
 
@@ -159,6 +160,13 @@ def test_lists_of_every_kind_are_taken() -> None:
         (lambda: default_curve(None, Charges()), "points: a list is due, not None"),  # type: ignore[arg-type]
         (lambda: bid(1, 0, [(1,)]), r"steps\[0\]: 2 numbers are due \(end price\), not 1"),
         (lambda: bid(1, 0, ["12"]), r"steps\[0\]: a list is due, not str"),  # type: ignore[list-item]
+        (lambda: join(None, PART), "proxy: Curve is due, not None"),  # type: ignore[arg-type]
+        (lambda: join(PART, None), "above: Curve is due, not None"),  # type: ignore[arg-type]
+        (lambda: join([(10, 1)], PART), "proxy: Curve is due, not list"),  # type: ignore[arg-type]
+        (lambda: join(PART, (0, [(10, 1)])), "above: Curve is due, not tuple"),  # type: ignore[arg-type]
+        (lambda: join(PART, Step(10, 1)), "above: Curve is due, not Step"),  # type: ignore[arg-type]
+        (lambda: join(PART, "curve"), "above: Curve is due, not str"),  # type: ignore[arg-type]
+        (lambda: join(0.5, PART), "proxy: Curve is due, not float"),  # type: ignore[arg-type]
         (lambda: Book([3, 40000]), r"day_ahead\[0\]: a list is due, not int"),  # type: ignore[list-item]
         (lambda: Book([(3, 40000, 5)]), r"day_ahead\[0\]: 2 numbers are due \(day price\), not 3"),
         (lambda: BOOK.run(2, 1), "market: Market.DAY_AHEAD or Market.REAL_TIME is due"),  # type: ignore[arg-type]

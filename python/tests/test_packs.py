@@ -81,5 +81,5 @@ def test_a_refusal_says_the_packs_sentence(beside: dict[str, str]) -> None:
     assert said.splitlines() == [
         "tide: the tide is outside 1 to 9 (refusal 97)",
         "tide: no such refusal is known (refusal 96)",
-        "bid: a bid has no step, or more than 10 (a pack's curve 11) (refusal 1)",
+        "bid: a bid has no step, or more than 10 (a default curve 11) (refusal 1)",
     ]

@@ -3,7 +3,7 @@
 //! The functions read and write within the lengths that are passed and nowhere else, they keep no pointer, and the buffers they write are
 //! lent for change, so that they overlap nothing.
 
-/// How many numbers the two buffers of `default` have: how many steps, the start and eleven ends; eleven prices.
+/// How many numbers the two buffers of a default curve have: how many steps, the start and eleven ends; eleven prices.
 pub const EDGES: usize = 2 + PRICES;
 pub const PRICES: usize = 11;
 
@@ -13,6 +13,13 @@ pub struct Asked<'a> {
     pub real_time: &'a [u32],
     pub market: u32,
     pub day: u32,
+}
+
+/// A part of a joined curve, with the end and the price of its steps in turn.
+pub struct Part<'a> {
+    pub start: i64,
+    pub count: usize,
+    pub steps: &'a [i64],
 }
 
 extern "C" {
@@ -53,6 +60,21 @@ extern "C" {
         points_len: usize,
         charges: *const i64,
         charges_len: usize,
+        edges: *mut u64,
+        edges_len: usize,
+        prices: *mut i64,
+        prices_len: usize,
+    ) -> i64;
+
+    fn noskjerf_join(
+        proxy_start: i64,
+        proxy_count: usize,
+        proxy_steps: *const i64,
+        proxy_steps_len: usize,
+        above_start: i64,
+        above_count: usize,
+        above_steps: *const i64,
+        above_steps_len: usize,
         edges: *mut u64,
         edges_len: usize,
         prices: *mut i64,
@@ -139,6 +161,27 @@ pub fn gas_default(
             points.len(),
             charges.as_ptr(),
             charges.len(),
+            edges.as_mut_ptr(),
+            edges.len(),
+            prices.as_mut_ptr(),
+            prices.len(),
+        )
+    }
+}
+
+/// The refusal of two parts of a joined curve; or 0, and the buffers filled.
+pub fn join(proxy: &Part<'_>, above: &Part<'_>, edges: &mut [u64; EDGES], prices: &mut [i64; PRICES]) -> i64 {
+    // SAFETY: each pointer comes with the length of its slice
+    unsafe {
+        noskjerf_join(
+            proxy.start,
+            proxy.count,
+            proxy.steps.as_ptr(),
+            proxy.steps.len(),
+            above.start,
+            above.count,
+            above.steps.as_ptr(),
+            above.steps.len(),
             edges.as_mut_ptr(),
             edges.len(),
             prices.as_mut_ptr(),

@@ -1,4 +1,4 @@
-//! Judgements on one bid or one table of costs, without a text.
+//! Judgements on one bid or one table of costs, and the two parts of a curve joined, without a text.
 
 use crate::{ffi, Step};
 
@@ -17,8 +17,7 @@ pub use crate::refusal::Refused;
 /// assert_eq!(bid(13, 10000, &steps), Ok(()));
 /// ```
 pub fn bid(month: u64, start: i64, steps: &[Step]) -> Result<(), Refused> {
-    let numbers: Vec<i64> = steps.iter().flat_map(|step| [step.end, step.price]).collect();
-    refused_or_not(ffi::bid(month, start, steps.len(), &numbers))
+    refused_or_not(ffi::bid(month, start, steps.len(), &ends_and_prices(steps)))
 }
 
 /// A point of a resource's costs.
@@ -65,7 +64,7 @@ impl Charges {
     }
 }
 
-/// A default energy bid.
+/// A default energy bid, or a part of one.
 #[derive(Clone, Debug, PartialEq, Eq)]
 pub struct DefaultCurve {
     /// Where the curve starts, in hundredths of a MW.
@@ -100,6 +99,60 @@ pub fn default_curve(points: &[Point], charges: &Charges) -> Result<DefaultCurve
 /// The points as the engine takes them: mw and heat in turn.
 pub(crate) fn in_turn(points: &[Point]) -> Vec<i64> {
     points.iter().flat_map(|point| [point.mw, point.heat]).collect()
+}
+
+/// Joins the two parts of a reliability contract unit's default energy bid: `proxy` has the proxy prices up to the contract capacity, which
+/// is where it ends, and `above` the default prices above it.
+///
+/// The curve has the steps of both, each price raised to the largest before it, so that no price of either part is lowered; neighbours of
+/// one price stay two steps. It serves as a default energy bid in an opening, by [`Resource::pack`](crate::hour::Resource::pack).
+///
+/// The refusal is the lowest that applies of 1 (the count of the steps), 2 (the edges) and 3 (the prices) of either part, 23 (the second
+/// part doesn't start at the first one's last end) and 24 (more than 11 steps together).
+///
+/// Proxy prices up to 100 MW below Case T's default curve, and Case T's hour with the two joined:
+///
+/// ```
+/// use noskjerf::hour::{Hour, Interval, Opening, Resource};
+/// use noskjerf::judgement::{default_curve, join, Charges, DefaultCurve, Point};
+/// use noskjerf::Step;
+///
+/// let points = [(10000, 10000), (20000, 9000), (30000, 9500)].map(|(mw, heat)| Point { mw, heat });
+/// let charges = Charges { gas: 40000, om: 20000, msc: 1000, soc: 3000, fee: 50, ..Charges::default() };
+/// let above = default_curve(&points, &charges)?;
+/// let proxy = DefaultCurve { start: 0, steps: vec![Step { end: 10000, price: 400000 }] };
+///
+/// let joined = join(&proxy, &above)?;
+/// let prices = joined.steps.iter().map(|step| step.price).collect::<Vec<_>>();
+/// // 378402 is raised
+/// assert_eq!(prices, [400000, 400000, 444403, 488402]);
+/// // the other way round they don't meet
+/// assert_eq!(join(&above, &proxy).unwrap_err().number, 23);
+///
+/// let unit = Resource::new(0, 10000).step(15000, 300000).step(30000, 900000).pack(joined);
+/// let mut hour = Hour::open(&Opening::month(25).portfolio(true).resource(unit))?;
+/// hour.interval(&Interval::new().constraint(500000).resource(600000, 20000, 30000, 0).factor(0, 0, -500000).parameter(100))?;
+/// let prices = hour.curve(0).steps.iter().map(|step| step.price).collect::<Vec<_>>();
+/// assert_eq!(prices, [300000, 400000, 444403, 488402]);
+/// # Ok::<(), noskjerf::Refused>(())
+/// ```
+pub fn join(proxy: &DefaultCurve, above: &DefaultCurve) -> Result<DefaultCurve, Refused> {
+    let (of_proxy, of_above) = (ends_and_prices(&proxy.steps), ends_and_prices(&above.steps));
+    worked_out(|edges, prices| ffi::join(&part(proxy, &of_proxy), &part(above, &of_above), edges, prices))
+}
+
+/// A part as the engine takes it, with the numbers of its steps.
+fn part<'a>(curve: &DefaultCurve, steps: &'a [i64]) -> ffi::Part<'a> {
+    ffi::Part {
+        start: curve.start,
+        count: curve.steps.len(),
+        steps,
+    }
+}
+
+/// The steps as the engine takes them: end and price in turn.
+fn ends_and_prices(steps: &[Step]) -> Vec<i64> {
+    steps.iter().flat_map(|step| [step.end, step.price]).collect()
 }
 
 /// The curve that the engine puts into the buffers it is lent, or its refusal.
@@ -280,7 +333,7 @@ mod tests {
         let refused = bid(25, 0, &[]).unwrap_err();
         assert_eq!(
             refused.to_string(),
-            "a bid has no step, or more than 10 (a pack's curve 11) (refusal 1)"
+            "a bid has no step, or more than 10 (a default curve 11) (refusal 1)"
         );
     }
 }

@@ -46,8 +46,8 @@
 //! ```
 //!
 //! [`Hour`] drives an hour in numbers, without a text: intervals, five-minute passes, curves, one bid for the hour, and whether and why a cap
-//! applies. [`TextHour`] drives one by the text of its parts. [`judgement`] judges one bid or works out one default energy bid, and [`gas`]
-//! takes the gas price for it from a book of published prices.
+//! applies. [`TextHour`] drives one by the text of its parts. [`judgement`] judges one bid, works out one default energy bid or joins the two
+//! parts of a contracted unit's, and [`gas`] takes the gas price from a book of published prices.
 //!
 //! # Building
 //!

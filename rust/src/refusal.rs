@@ -43,8 +43,8 @@ impl Error for Refusal {}
 
 /// Why a call in numbers was refused: the number of the reason alone.
 ///
-/// A bid has 1 to 3, costs 4 to 8, a book of gas prices 21. Opening an hour has 1 to 11, an interval 12 to 16, a pass 13 to 16 and 19, the bid
-/// for the hour 20.
+/// A bid has 1 to 3, costs 4 to 8, a book of gas prices 21, the parts of a joined curve 1 to 3, 23 and 24. Opening an hour has 1 to 11, an
+/// interval 12 to 16, a pass 13 to 16 and 19, the bid for the hour 20.
 #[derive(Clone, Copy, Debug, PartialEq, Eq, Hash)]
 pub struct Refused {
     /// The number of the reason.
@@ -69,9 +69,9 @@ impl Error for Refused {}
 /// What a number says.
 pub(crate) fn reason(number: u8) -> &'static str {
     match number {
-        1 => "a bid has no step, or more than 10 (a pack's curve 11)",
-        2 => "an edge of a bid (or of a pack's curve) is outside 0 to 1,000,000, or its edges do not rise",
-        3 => "a bid price is outside the range that the month allows (a pack's outside its own), or the prices fall",
+        1 => "a bid has no step, or more than 10 (a default curve 11)",
+        2 => "an edge of a bid (or of a default curve) is outside 0 to 1,000,000, or its edges do not rise",
+        3 => "a bid price is outside the range that the month allows (a default price outside its own), or the prices fall",
         4 => "a resource has fewer than 2 cost points, or more than 11",
         5 => "the quantity of a cost point is outside 0 to 1,000,000, or the quantities do not rise",
         6 => "a heat rate is outside 1 to 100,000",
@@ -90,6 +90,8 @@ pub(crate) fn reason(number: u8) -> &'static str {
         19 => "no interval is accepted yet, or three passes are accepted since the last",
         20 => "fewer than four intervals are accepted",
         21 => "the market's list of gas prices ends inside a pair, its days do not rise, or it has no entry up to the trading day",
+        23 => "the second part does not start at the first one's last end",
+        24 => "the two parts have more than 11 steps together",
         _ => "no such refusal is known",
     }
 }
@@ -101,9 +103,12 @@ mod tests {
 
     #[test]
     fn every_number_has_a_sentence_of_its_own() {
-        let sentences: BTreeSet<&str> = (0..=21).map(reason).collect();
-        assert_eq!(sentences.len(), 22);
-        assert_eq!(reason(0), reason(22));
+        let numbers = (1..=21).chain(23..=24);
+        let sentences: BTreeSet<&str> = numbers.map(reason).collect();
+        assert_eq!(sentences.len(), 23);
+        for none in [0, 22, 25] {
+            assert!(!sentences.contains(reason(none)));
+        }
     }
 
     #[test]

@@ -2,7 +2,7 @@
 use mathlib.Core.Bool.{Bool, true, false}
 use mathlib.Core.List.{List}
 use mathlib.Core.Path.{_≡_, refl, sym, subst}
-use Prim.Native.Nat.{ℕ, zero, suc, _≤_, _<_}
+use Prim.Native.Nat.{ℕ, _≤_, _<_}
 use native.Mathlib.Nat.{le-refl}
 use native.Mathlib.Omega.{arith}
 use borrow.Author.Tests.{le-leb}
@@ -15,10 +15,9 @@ use Rattle.rules_curve.specs.Demands.{Between}
 use Rattle.rules_curve.specs.Refusals.{outcomeNumber}
 use Rattle.rules_curve.specs.declared.Outcome.{Outcome}
 use Rattle.rules_curve.specs.declared.Outcome.the-variants.{Refused}
-use Rattle.rules_curve.specs.declared.RawCurve.{RawCurve}
 use Rattle.rules_curve.specs.declared.Refusal.{Refusal}
 use Rattle.rules_curve.proofs.RefusalLaws.{refused-number}
-use Rattle.rules_hydro.specs.Hydros.{largestAt, largestOver, hydroPrice, hydroCurve, pricesGood, limitsGood, hydroRefusal, hydroIn, noPack, packUnless}
+use Rattle.rules_hydro.specs.Hydros.{largestAt, largestOver, hydroPrice, hydroCurve, pricesGood, limitsGood, hydroRefusal, hydroIn}
 use Rattle.rules_hydro.specs.Conditions.{Limited}
 use Rattle.rules_hydro.specs.declared.Hydro.{Hydro}
 use Rattle.rules_hydro.proofs.Exactly.{limits-exactly, near-price, far-price}
@@ -84,10 +83,6 @@ module _ (low high heat gas : ℤ) (hubs horizon : ℕ) (prices : List ℤ) wher
 pub by-fields : {l l' h h' e e' g g' : ℤ} {n m : ℕ} {p : List ℤ} → l ≡ l' → h ≡ h' → e ≡ e' → g ≡ g' → hydroIn l h e g n m p ≡ hydroIn l' h' e' g' n m p
 by-fields a b c d = cc
 
--- ---- a refusal has a number, and hands back no step
+-- ---- a refusal has a number
 pub some-number : {o : Outcome} {r : Refusal} → o ≡ Refused r → 0 < outcomeNumber o
 some-number {o} {r} e = subst (λ (x : Outcome). 0 < outcomeNumber x) (sym e) (refused-number r)
-
-pub none-of : (n : ℕ) (c : RawCurve) → 0 < n → packUnless n c ≡ noPack
-none-of zero c h = absurd (omega arith)
-none-of (suc n) c h = refl

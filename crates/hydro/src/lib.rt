@@ -13,7 +13,8 @@ ghost use lib.IntN.{pos, natAbs, _*ℤ_};
 ghost use Rattle.rules_number.specs.Ceil.{ceilDiv};
 ghost use Rattle.rules_number.specs.Order.{inRange};
 ghost use Rattle.rules_number.specs.Over.{allTo};
-ghost use Rattle.rules_hydro.specs.Hydros.{oneStep, hubPrice, largestAt, largestOver, gasFloor, hydroPrice, isHubPrice, pricesGood, limitsGood, hydroRefusal, hydroIn, hydroNumber, noPack, hydroPack};
+ghost use Rattle.rules_curve.specs.Curves.{noPack};
+ghost use Rattle.rules_hydro.specs.Hydros.{oneStep, hubPrice, largestAt, largestOver, gasFloor, hydroPrice, isHubPrice, pricesGood, limitsGood, hydroRefusal, hydroIn, hydroNumber, hydroPack};
 ghost use Rattle.hydro.specs.Given.{dataIn};
 
 // The number of an outcome: 0 where nothing is refused.

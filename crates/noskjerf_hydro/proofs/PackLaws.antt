@@ -2,11 +2,11 @@
 use mathlib.Core.Path.{_≡_, ap, _∙_}
 use Prim.Native.Nat.{ℕ, _≤_}
 use native.Mathlib.Omega.{arith}
-use Rattle.rules_curve.specs.Curves.{curveOf, checkedDefault, defaultRefusal, unlessRefused}
+use Rattle.rules_curve.specs.Curves.{curveOf, checkedDefault, defaultRefusal, unlessRefused, packUnless}
 use Rattle.rules_curve.specs.Refusals.{unless}
 use Rattle.rules_curve.proofs.CheckLaws.{then-both}
 use Rattle.rules_curve.proofs.RefusalLaws.{two-digits}
-use Rattle.rules_hydro.specs.Hydros.{hydroNumber, limitsGood, hydroCurve, hydroRefusal, packUnless, hydroPack}
+use Rattle.rules_hydro.specs.Hydros.{hydroNumber, limitsGood, hydroCurve, hydroRefusal, hydroPack}
 use Rattle.rules_hydro.specs.declared.Hydro.{Hydro}
 use Rattle.rules_hydro.specs.declared.HydroOutcome.{HydroOutcome}
 use Rattle.rules_hydro.specs.declared.HydroOutcome.the-variants.{Accepted, OutsideLimits, Refused}

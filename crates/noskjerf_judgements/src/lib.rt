@@ -1,10 +1,10 @@
-// A bid judged, a default curve from costs, and books of gas prices, for programs in other languages: functions on numbers and slices under C names. The contracts cite
-// the definitions of rules_library.
-use rules_curve::RawCurve;
+// A bid judged, a default curve from costs, one joined of two, and books of gas prices, for programs in other languages: functions on numbers and slices under C names.
+// The contracts cite the definitions of rules_library.
 ghost use mathlib.Core.Path.{_≡_};
 ghost use Rattle.rules_curve.specs.Curves.{bidRefusal};
+ghost use Rattle.rules_contract.specs.Contracts.{contractRefusal, joinedCurve};
 ghost use Rattle.rules_library.specs.Gas.{listBy, runCount, gasAnswer, gasEdges, gasPrices};
-ghost use Rattle.rules_library.specs.Slices.{rawBid, costsIn, defaultAnswer, edgesAfter, pricesAfter};
+ghost use Rattle.rules_library.specs.Slices.{rawBid, costsIn, putAnswer, edgesWith, pricesWith, defaultAnswer, edgesAfter, pricesAfter};
 
 // Whether a bid is accepted, by month since the rule took effect: 0, or the number of its refusal. `steps` has end and price of each step in turn, and numbers
 // past its end count as 0.
@@ -12,11 +12,7 @@ ghost use Rattle.rules_library.specs.Slices.{rawBid, costsIn, defaultAnswer, ed
 pub extern "C" fn noskjerf_bid(month: u64, start: i64, count: usize, steps: &[i64]) -> u64
     ensures { λ r. ⌜ r ≡ bidRefusal month (rawBid start count (now (steps .entry))) ⌝ }
 {
-    let bid = RawCurve {
-        start,
-        count,
-        steps: slices::steps_in(steps),
-    };
+    let bid = slices::curve_in(start, count, steps);
     let checked = curve_checks::checked_bid(bid, month);
     let outcome = checked.outcome;
     curve::outcome_number(outcome)
@@ -78,4 +74,36 @@ pub extern "C" fn noskjerf_gas_default<'a>(
     let list = slices::list_of(day_ahead, real_time, market);
     let costs = slices::costs_in(count, points, charges);
     put_slices::put_checked(gas_default::default_on(costs, list, day), edges, prices)
+}
+
+// Two default curves joined: the proxy curve up to the contract capacity, and the default curve above it. `proxy_steps` and `above_steps` have end and price of each
+// step in turn, and numbers past their ends count as 0. Answers 0 and puts the curve's number of steps, start and eleven ends into `edges`, and its eleven prices into
+// `prices`; or answers 1 to 3, 23 or 24, or -1 where `edges` has fewer than 13 numbers or `prices` fewer than 11, and leaves both as they were.
+#[no_mangle]
+pub extern "C" fn noskjerf_join(
+    proxy_start: i64,
+    proxy_count: usize,
+    proxy_steps: &[i64],
+    above_start: i64,
+    above_count: usize,
+    above_steps: &[i64],
+    edges: &mut [u64],
+    prices: &mut [i64],
+) -> i64
+    ensures answer { λ r.
+        let proxy = rawBid «proxy_start» «proxy_count» (now («proxy_steps» .entry)) in
+        let above = rawBid «above_start» «above_count» (now («above_steps» .entry)) in
+        ⌜ r ≡ putAnswer (now (edges .entry)) (now (prices .entry)) (contractRefusal proxy above) ⌝ }
+    ensures edges { λ r.
+        let proxy = rawBid «proxy_start» «proxy_count» (now («proxy_steps» .entry)) in
+        let above = rawBid «above_start» «above_count» (now («above_steps» .entry)) in
+        ⌜ now (edges .exit) ≡ edgesWith (now (edges .entry)) (now (prices .entry)) (contractRefusal proxy above) (joinedCurve proxy above) ⌝ }
+    ensures prices { λ r.
+        let proxy = rawBid «proxy_start» «proxy_count» (now («proxy_steps» .entry)) in
+        let above = rawBid «above_start» «above_count» (now («above_steps» .entry)) in
+        ⌜ now (prices .exit) ≡ pricesWith (now (edges .entry)) (now (prices .entry)) (contractRefusal proxy above) (joinedCurve proxy above) ⌝ }
+{
+    let proxy = slices::curve_in(proxy_start, proxy_count, proxy_steps);
+    let above = slices::curve_in(above_start, above_count, above_steps);
+    put_slices::put_checked(contract::joined_curve(proxy, above), edges, prices)
 }

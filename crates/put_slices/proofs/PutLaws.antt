@@ -1,6 +1,6 @@
 -- Laws of the answers of put_checked, one for each way out. Assumes nothing.
 use Prim.Native.Nat.{ℕ, zero, suc, _≤_, _<_}
-use mathlib.Core.Path.{_≡_, sym, ap, _∙_}
+use mathlib.Core.Path.{_≡_, sym, ap, subst, _∙_}
 use mathlib.Core.Bool.{Bool, cond, _&&_}
 use mathlib.Core.List.{List}
 use native.Mathlib.Omega.{arith}
@@ -47,3 +47,7 @@ module _ (edges : List ℕ) (prices : List ℤ) (n : ℕ) (curve : Curve) where
 
       pub written : n ≡ 0 → Answered (pos 0) (sets edges 0 (edgesOf curve)) (sets prices 0 (pricesOf curve))
       written z = answered (pos 0) (number 0 z)
+
+-- of the number and the curve that a check gave
+pub put-same : (edges : List ℕ) (prices : List ℤ) (n m : ℕ) (a b : Curve) → n ≡ m → a ≡ b → (r : ℤ) (e : List ℕ) (p : List ℤ) → Answered edges prices n a r e p → Answered edges prices m b r e p
+put-same edges prices n m a b x y r e p h = subst (λ (k : ℕ). Answered edges prices k b r e p) x (subst (λ (k : Curve). Answered edges prices n k r e p) y h)

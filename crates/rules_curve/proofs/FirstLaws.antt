@@ -39,7 +39,7 @@ pub accepted-exactly : (l : List Demand) (r : ℕ) → First r l → (r ≡ 0) �
 accepted-exactly l r f = let e = exactly l r f 0 in let z = none-exactly l in ((λ x. z .0 (e .0 x)), λ m. e .1 (z .1 m))
 
 -- ---- a chain of checks
-then-positive : (a b : ℕ) → 0 < a → (a then b) ≡ a
+pub then-positive : (a b : ℕ) → 0 < a → (a then b) ≡ a
 then-positive zero b h = absurd (omega arith)
 then-positive (suc a) b h = refl
 

@@ -9,6 +9,7 @@ use lib.Signed.{ltZ, leZ}
 use Rattle.rules_number.specs.Order.{inRange, natOf}
 use Rattle.rules_number.specs.Over.{padded}
 use Rattle.rules_curve.specs.Refusals.{unless, _then_}
+use Rattle.rules_curve.specs.Conditions.{noStep}
 use Rattle.rules_curve.specs.declared.RawStep.{RawStep}
 use Rattle.rules_curve.specs.declared.RawCurve.{RawCurve}
 use Rattle.rules_curve.specs.declared.Step.{Step}
@@ -136,6 +137,17 @@ curveOf c = curveWith (natOf (c .start)) (map stepOf (rawSteps c))
 abbrev pub unlessRefused : ℕ → Curve → Curve
 unlessRefused zero c = c
 unlessRefused (suc n) c = blankCurve
+
+-- the curve that starts at s and has the steps l, as it would be read, and the one of no step: what a refusal leaves of a default curve that is made for a pack
+abbrev pub rawWith : ℤ → List RawStep → RawCurve
+rawWith s l = record { start = s; count = length l; steps = padded mostSteps noStep l }
+
+unfoldable pub noPack : RawCurve
+noPack = rawWith (pos 0) []
+
+abbrev pub packUnless : ℕ → RawCurve → RawCurve
+packUnless zero c = c
+packUnless (suc n) c = noPack
 
 abbrev pub refusedWith : Refusal → Checked
 refusedWith r = record { outcome = Refused r; curve = blankCurve }

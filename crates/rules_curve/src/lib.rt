@@ -55,6 +55,8 @@ pub enum Refusal {
     PassTurn,
     HourOpen,
     GasBook,
+    PartsApart,
+    PartsTogether,
 }
 
 pub enum Outcome {

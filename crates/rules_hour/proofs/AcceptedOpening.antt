@@ -1,6 +1,6 @@
 -- What an accepted opening is like: its counts, its bids and default curves, and the rows and floor prices of its fresh hour.
 use mathlib.Core.Bool.{true, _&&_}
-use mathlib.Core.Path.{_≡_, refl}
+use mathlib.Core.Path.{_≡_, refl, ap, subst, _∙_}
 use Prim.Native.Nat.{ℕ, zero, suc, _≤_, _<_}
 use native.Mathlib.Omega.{arith}
 use borrow.Author.Tests.{leb-true}
@@ -12,7 +12,9 @@ use Rattle.rules_number.specs.Order.{inRange, natOf}
 use Rattle.rules_number.proofs.OverLaws.{both, all-at}
 use Rattle.rules_number.proofs.ExactLaws.{leZ-exactly, ltZ-exactly, and-exactly}
 use Rattle.rules_curve.specs.Refusals.{unless, _then_, eachTo}
-use Rattle.rules_curve.specs.Curves.{bidRefusal, lowestBid, highestBid, lowestDefault, highestDefault}
+use Rattle.rules_curve.specs.Curves.{bidRefusal, lowestBid, highestBid, lowestDefault, highestDefault, defaultRefusal, curveOf, packUnless}
+use Rattle.rules_curve.specs.declared.RawCurve.{RawCurve}
+use Rattle.rules_curve.proofs.Answered.{packed-taken}
 use Rattle.rules_curve.specs.Meaning.{Sound, SoundBid}
 use Rattle.rules_curve.proofs.CheckLaws.{then-both, unless-holds, each-at, bid-checked, default-checked}
 use Rattle.rules_mitigation.specs.Meaning.{Inside}
@@ -32,6 +34,12 @@ use Rattle.rules_opening.specs.Resources.{blankRow, defaultBy, liesInside, reso
 default-sound-by : (s : Source) (x : Resource) → sourceRefusal s x ≡ 0 → Sound (defaultBy s x)
 default-sound-by source.Costs x e = cost-sound (x .costs) e
 default-sound-by source.Pack x e = default-checked lowestDefault highestDefault (x .pack) e
+
+-- a curve made for a pack was not refused, and is the resource's default curve
+packed-by : (s : Source) (x : Resource) (n : ℕ) (c : RawCurve) → sourceRefusal s x ≡ 0 → s ≡ source.Pack → x .pack ≡ packUnless n c → (n ≡ 0) × (defaultBy s x ≡ curveOf c)
+packed-by s x n c passes is e =
+    let taken = packed-taken n c (subst (λ (k : RawCurve). defaultRefusal k ≡ 0) e (rw is at passes)) in
+    (taken, rw is (ap curveOf (e ∙ ap (λ (k : ℕ). packUnless k c) taken)))
 
 -- "A refusal returns its number alone": an opening that is refused hands back the hour of no resources
 pub refused-opening : (o : Opening) → 0 < openingRefusal o → openedHour o ≡ record { market = blankMarket; rows = replicate 64 blankRow; standing = record { accepted = 0; floors = replicate 64 uncut } }
@@ -94,6 +102,9 @@ module _ (o : Opening) (accepted : openingRefusal o ≡ 0) where
     -- so does its default curve
     pub default-sound : Sound (defaultOf o r)
     default-sound = default-sound-by (resourceAt o r .source) (resourceAt o r) (resource-checks .1)
+
+    pub packed-default : (n : ℕ) (c : RawCurve) → resourceAt o r .source ≡ source.Pack → resourceAt o r .pack ≡ packUnless n c → (n ≡ 0) × (defaultOf o r ≡ curveOf c)
+    packed-default n c = packed-by (resourceAt o r .source) (resourceAt o r) n c (resource-checks .1)
 
     -- the bid reaches nowhere outside it
     pub bid-inside : Inside (submitted o r) (defaultOf o r)

@@ -8,25 +8,20 @@ use native.Mathlib.Nat.{le-refl}
 use native.Mathlib.Omega.{arith}
 use lib.IntN.{ℤ, pos, _+ℤ_, _-ℤ_, _*ℤ_}
 use Rattle.rules_number.specs.Order.{eqZ, natOf}
-use Rattle.rules_curve.specs.Curves.{stepTo, stepsOf, endOf, priceAt, curveOf, defaultRefusal, curveRefusal}
-use Rattle.rules_curve.specs.declared.RawCurve.{RawCurve}
+use Rattle.rules_curve.specs.Curves.{stepTo, stepsOf, endOf, priceAt, curveOf}
 use Rattle.rules_curve.specs.declared.Step.{Step}
 use Rattle.rules_curve.specs.declared.Quote.the-variants as answer
 use Rattle.rules_curve.proofs.PriceLaws.{price-here}
 use Rattle.rules_interval.specs.Intervals.{availableAt, floorAt}
 use Rattle.rules_interval.specs.declared.Interval.{Interval}
-use Rattle.rules_opening.specs.Openings.{resourceAt, openingRefusal}
-use Rattle.rules_opening.specs.Resources.{defaultBy, sourceRefusal}
+use Rattle.rules_opening.specs.Openings.{openingRefusal}
 use Rattle.rules_opening.specs.declared.Opening.{Opening}
-use Rattle.rules_opening.specs.declared.Resource.{Resource}
-use Rattle.rules_opening.specs.declared.Source.{Source}
-use Rattle.rules_opening.specs.declared.Source.the-variants as source
 use Rattle.rules_hour.specs.Demand3.{InBid, sumOf, effectivenessOn, counterflowDemand, counterflowSupply, canWithhold, Enters, Component, quoteIn, defaultOf}
-use Rattle.rules_hour.proofs.AcceptedOpening.{resource-checks}
+use Rattle.rules_hour.proofs.AcceptedOpening.{packed-default}
 use Rattle.rules_pass.specs.Calls.{Request}
 use Rattle.rules_pass.proofs.Demand3.{demand-3}
 use Rattle.rules_pass.proofs.FiveMinute.{five-minute}
-use Rattle.rules_hydro.specs.Hydros.{hydroRefusal, hydroPrice, hydroCurve, noPack, packUnless}
+use Rattle.rules_hydro.specs.Hydros.{hydroRefusal, hydroPrice, hydroCurve}
 use Rattle.rules_hydro.specs.Units.{IsHydro, SameOwners, HydroUnit}
 use Rattle.rules_hydro.specs.declared.Hydro.{Hydro}
 use Rattle.rules_hydro.proofs.HydroPrice.{one-step}
@@ -76,34 +71,17 @@ component-same o p s v r C h = record {
 pub same-causes : (o p : Opening) → SameOwners o p → (v : Interval) (r : ℕ) (C : ℤ) → Component o v r C ↔ Component p v r C
 same-causes o p s v r C = (component-same o p s v r C, component-same p o (turned o p s) v r C)
 
--- ---- a refused pack's curve has no step, which is 1
-no-pack : defaultRefusal noPack ≡ 1
-unfolding noPack curveRefusal
-no-pack = refl
-
-packed-taken : (n : ℕ) (c : RawCurve) → defaultRefusal (packUnless n c) ≡ 0 → n ≡ 0
-packed-taken zero c e = refl
-packed-taken (suc n) c e = let z = sym no-pack ∙ e in absurd (omega arith)
-
-pack-refusal : (s : Source) (x : Resource) → s ≡ source.Pack → sourceRefusal s x ≡ 0 → defaultRefusal (x .pack) ≡ 0
-pack-refusal s x e h = rw e at h
-
-pack-default : (s : Source) (x : Resource) → s ≡ source.Pack → defaultBy s x ≡ curveOf (x .pack)
-pack-default s x e = rw e
-
+-- ---- the unit in an hour
 module _ (o : Opening) (calls : List Request) (r : ℕ) (x : Hydro) (accepted : openingRefusal o ≡ 0) (l : r < o .resources) (hydro : IsHydro o r x) where
-  hydro-taken : hydroRefusal x ≡ 0
-  hydro-taken =
-      packed-taken (hydroRefusal x) (hydroCurve x)
-      (subst (λ (c : RawCurve). defaultRefusal c ≡ 0) (hydro .pack) (pack-refusal _ (resourceAt o r) (hydro .packed) (resource-checks o accepted r l .1)))
+  packed : (hydroRefusal x ≡ 0) × (defaultOf o r ≡ curveOf (hydroCurve x))
+  packed = packed-default o accepted r l (hydroRefusal x) (hydroCurve x) (hydro .packed) (hydro .pack)
 
   -- its default curve is the one step
   steps-are : stepsOf (defaultOf o r) ≡ stepTo (natOf (x .high)) (hydroPrice x) ∷ []
-  steps-are =
-      ap stepsOf (pack-default _ (resourceAt o r) (hydro .packed) ∙ ap curveOf (hydro .pack ∙ ap (λ (n : ℕ). packUnless n (hydroCurve x)) hydro-taken)) ∙ one-step x .1
+  steps-are = ap stepsOf (packed .1) ∙ one-step x .1
 
   pub hydro-unit : HydroUnit o calls r x
-  hydro-unit = record { taken = hydro-taken; hourly = demand-3 o calls r accepted l; five-minute = five-minute o calls r accepted l; default = default }
+  hydro-unit = record { taken = packed .0; hourly = demand-3 o calls r accepted l; five-minute = five-minute o calls r accepted l; default = default }
     where
       default : (q : ℕ) → InBid o r q → quoteIn (defaultOf o r) q ≡ answer.Price (hydroPrice x)
       default q i =

@@ -6,7 +6,7 @@ use lib.IntN.{ℤ, pos, negℤ}
 use Rattle.rules_number.specs.Order.{inRange}
 use Rattle.rules_number.specs.Over.{sumTo, allTo, listed, those, sumOver, padded, upTo, highestTo}
 use Rattle.rules_curve.specs.Refusals.{numberOf, eachTo}
-use Rattle.rules_curve.specs.Curves.{stepTo, chain, curveRefusal, curveOf, priceAt}
+use Rattle.rules_curve.specs.Curves.{stepTo, chain, curveRefusal, curveOf, priceAt, noPack}
 use Rattle.rules_curve.specs.declared.Refusal.{Refusal}
 use Rattle.rules_mitigation.specs.Mitigation.{segmentsN, joined, joinedAfter, mitigated, usedSteps}
 use Rattle.rules_interval.specs.Intervals.{allWithin, factorsGood, outputsGood, intervalRefusal}
@@ -19,7 +19,7 @@ use Rattle.rules_opening.proofs.CaseT.{cells, bidT, intervalT}
 use Rattle.rules_hour.specs.Cuts.{entering, component, cutBy, cutOf}
 use Rattle.rules_hour.specs.Hours.{freshStanding, curveIn, nextStanding, callRefusal, standingAfter, hourAfter, hourAfterAll}
 use Rattle.rules_hour.specs.Opened.{freshHour, openedHour}
-use Rattle.rules_hydro.specs.Hydros.{oneStep, largestAt, largestOver, gasFloor, shortTerm, longTerm, hydroPrice, pricesGood, limitsGood, hydroRefusal, hydroNumber, noPack, hydroPack}
+use Rattle.rules_hydro.specs.Hydros.{oneStep, largestAt, largestOver, gasFloor, shortTerm, longTerm, hydroPrice, pricesGood, limitsGood, hydroRefusal, hydroNumber, hydroPack}
 use Rattle.rules_hydro.specs.declared.Hydro.{Hydro}
 use Rattle.rules_hydro.specs.declared.HydroOutcome.the-variants.{Accepted, OutsideLimits, Refused}
 

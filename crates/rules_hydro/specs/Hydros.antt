@@ -1,26 +1,21 @@
 -- The hydro default (paper 02, 2.8; 39.7.1.7.1).
 use mathlib.Core.Bool.{Bool, _&&_}
 use mathlib.Core.List.{List, [], _∷_}
-use Prim.Native.Nat.{ℕ, zero, suc, _+_, _-_, _*_}
+use Prim.Native.Nat.{ℕ, suc, _+_, _-_, _*_}
 use lib.Dec.{leb}
 use lib.IntN.{ℤ, pos, _*ℤ_}
-use lib.ListN.{length, getD}
+use lib.ListN.{getD}
 use Rattle.rules_number.specs.Ceil.{ceilDiv}
 use Rattle.rules_number.specs.Order.{maxZ, inRange}
-use Rattle.rules_number.specs.Over.{allTo, highestTo, padded}
-use Rattle.rules_curve.specs.Conditions.{noStep}
-use Rattle.rules_curve.specs.Curves.{mostSteps, defaultRefusal}
+use Rattle.rules_number.specs.Over.{allTo, highestTo}
+use Rattle.rules_curve.specs.Curves.{defaultRefusal, rawWith, packUnless}
 use Rattle.rules_curve.specs.Refusals.{numberOf, unless, _then_}
-use Rattle.rules_curve.specs.declared.RawStep.{RawStep}
 use Rattle.rules_curve.specs.declared.RawCurve.{RawCurve}
 use Rattle.rules_hydro.specs.declared.Hydro.{Hydro}
 use Rattle.rules_hydro.specs.declared.HydroOutcome.{HydroOutcome}
 use Rattle.rules_hydro.specs.declared.HydroOutcome.the-variants.{Accepted, OutsideLimits, Refused}
 
 -- ---- the curve, as opening takes it from a pack: "one step from a given lowest to a given highest quantity"
-abbrev pub rawWith : ℤ → List RawStep → RawCurve
-rawWith start steps = record { start = start; count = length steps; steps = padded mostSteps noStep steps }
-
 unfoldable pub oneStep : ℤ → ℤ → ℤ → RawCurve
 oneStep low high price = rawWith low (record { end = high; price = price } ∷ [])
 
@@ -102,12 +97,5 @@ hydroNumber OutsideLimits = 22
 hydroNumber (Refused r) = numberOf r
 
 -- a refusal returns its number alone: the curve has no step
-unfoldable pub noPack : RawCurve
-noPack = rawWith (pos 0) []
-
-abbrev pub packUnless : ℕ → RawCurve → RawCurve
-packUnless zero c = c
-packUnless (suc n) c = noPack
-
 abbrev pub hydroPack : Hydro → RawCurve
 hydroPack x = packUnless (hydroRefusal x) (hydroCurve x)

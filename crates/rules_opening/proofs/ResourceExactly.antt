@@ -1,6 +1,6 @@
 -- A resource, exactly: the number is that of the first of bid, costs or pack, 11 that is not met, and 0 exactly when all are met. Assumes nothing.
 use mathlib.Core.Bool.{true}
-use mathlib.Core.List.{List, [], _∷_, _++_, map}
+use mathlib.Core.List.{_++_}
 use mathlib.Core.Logic.{_↔_}
 use mathlib.Core.Path.{_≡_, refl, ap, _∙_}
 use Prim.Native.Nat.{ℕ, zero, suc, _-_, _≤_, _<_}
@@ -8,16 +8,15 @@ use native.Mathlib.Nat.{le-refl}
 use native.Mathlib.Omega.{arith}
 use lib.Dec.{leb}
 use lib.IntN.{ℤ, pos, negsuc}
-use lib.ListN.{length, getD, take}
+use lib.ListN.{length}
 use lib.Signed.{_≤ℤ_}
 use Rattle.rules_number.specs.Order.{natOf}
 use Rattle.rules_number.specs.Over.{listed}
 use Rattle.rules_number.proofs.OverLaws.{listed-length, listed-at}
 use Rattle.rules_curve.specs.Demands.{First, Met}
-use Rattle.rules_curve.specs.Conditions.{noStep, edge, Counted, Edged, bidDemands}
-use Rattle.rules_curve.specs.Curves.{stepsOf, stepOf, endOf, curveOf, rawSteps, blankStep, bidRefusal}
-use Rattle.rules_curve.specs.declared.RawStep.{RawStep}
-use Rattle.rules_curve.specs.declared.RawCurve.{RawCurve}
+use Rattle.rules_curve.specs.Conditions.{edge, Counted, Edged, bidDemands}
+use Rattle.rules_curve.specs.Curves.{stepsOf, endOf, curveOf, blankStep, bidRefusal}
+use Rattle.rules_curve.proofs.Answered.{same-start, raw-end}
 use Rattle.rules_curve.proofs.CheckLaws.{with-used}
 use Rattle.rules_number.proofs.ExactLaws.{leZ-exactly, and-exactly, iff-then}
 use Rattle.rules_curve.proofs.FirstLaws.{exactly, first-then, first-more}
@@ -39,32 +38,6 @@ nat-exactly : (a b : ℤ) → pos 0 ≤ℤ a → pos 0 ≤ℤ b → (leb (natOf 
 nat-exactly (pos a) (pos b) h k = leZ-exactly (pos a) (pos b)
 nat-exactly (pos a) (negsuc b) h k = absurd (k .le)
 nat-exactly (negsuc a) b h k = absurd (h .le)
-
--- ---- where a curve that was read starts and ends
-edgeIn : ℤ → List RawStep → ℕ → ℤ
-edgeIn p l zero = p
-edgeIn p l (suc i) = getD l i noStep .end
-
-end-in : (p : ℤ) (n : ℕ) (l : List RawStep) → n ≤ length l → endOf (natOf p) (map stepOf (take n l)) ≡ natOf (edgeIn p l n)
-unfolding edgeIn
-end-in p zero l h = refl
-end-in p (suc n) [] h = absurd (omega arith)
-end-in p (suc zero) (s ∷ l) h = refl
-end-in p (suc (suc n)) (s ∷ l) h = end-in (s .end) (suc n) l (omega arith)
-
-edge-in : (c : RawCurve) (i : ℕ) → edgeIn (c .start) (c .steps) i ≡ edge c i
-unfolding edgeIn
-edge-in c zero = refl
-edge-in c (suc i) = refl
-
-raw-start : (c : RawCurve) → curveOf c .start ≡ natOf (edge c 0)
-unfolding curveOf
-raw-start c = refl
-
-raw-end : (c : RawCurve) → c .count ≤ length (c .steps) → endOf (curveOf c .start) (stepsOf (curveOf c)) ≡ natOf (edge c (c .count))
-unfolding curveOf
-raw-end c h =
-    rw (with-used (natOf (c .start)) (map stepOf (rawSteps c))) (end-in (c .start) (c .count) (c .steps) h ∙ ap natOf (edge-in c (c .count)))
 
 -- ---- where a curve from costs ends
 cost-end : (c : Costs) → 2 ≤ c .count → endOf (costCurve c .start) (stepsOf (costCurve c)) ≡ natOf (m c (c .count - 1))
@@ -97,7 +70,7 @@ module _ (x : Resource) (full : Full x) (count : Counted 10 (x .bid)) (edges : E
   unfolding liesInside
   inside-exactly s met =
       let d = from-to s met in
-      rw (raw-end (x .bid) bid-room, raw-start (x .bid), d .1, d .0)
+      rw (raw-end (x .bid) bid-room, same-start (x .bid), d .1, d .0)
       (iff-then (and-exactly _ _ (nat-exactly (defaultStart s x) (edge (x .bid) 0) (d .2) (edges .within 0 (omega arith) .0))
       (nat-exactly (edge (x .bid) (x .bid .count)) (defaultEnd s x) (edges .within (x .bid .count) (le-refl (x .bid .count)) .0) (d .3)))
       (λ h. record { starts = h .0; ends = h .1 }) (λ h. (h .starts, h .ends)))

@@ -1,16 +1,17 @@
-// Steps, costs and a market's list of gas prices, read from lent slices of numbers. The contracts cite the definitions of rules_library.
+// Curves, costs and a market's list of gas prices, read from lent slices of numbers. The contracts cite the definitions of rules_library.
 use rules_cost::Costs;
 use rules_cost::Point;
 use rules_curve::Curve;
+use rules_curve::RawCurve;
 use rules_curve::RawStep;
 ghost use mathlib.Core.Path.{_≡_};
 ghost use Prim.Native.Nat.{_<_};
 ghost use Rattle.rules_cost.specs.Costs.{mostPoints};
 ghost use Rattle.rules_library.specs.Gas.{listBy};
-ghost use Rattle.rules_library.specs.Slices.{stepsIn, rawPointAt, pointsIn, costsIn};
+ghost use Rattle.rules_library.specs.Slices.{stepsIn, rawBid, rawPointAt, pointsIn, costsIn};
 
 // Eleven steps, from end and price of each in turn.
-pub fn steps_in(s: &[i64]) -> [RawStep; Curve::MAX_STEPS]
+fn steps_in(s: &[i64]) -> [RawStep; Curve::MAX_STEPS]
     ensures { λ r. ⌜ r ≡ stepsIn (now (s .entry)) ⌝ }
 {
     let mut steps = [RawStep { end: 0, price: 0 }; Curve::MAX_STEPS];
@@ -22,6 +23,17 @@ pub fn steps_in(s: &[i64]) -> [RawStep; Curve::MAX_STEPS]
         i += 1;
     }
     steps
+}
+
+// A curve as it is read, from its start, its count and its steps.
+pub fn curve_in(start: i64, count: usize, s: &[i64]) -> RawCurve
+    ensures { λ r. ⌜ r ≡ rawBid start count (now (s .entry)) ⌝ }
+{
+    RawCurve {
+        start,
+        count,
+        steps: steps_in(s),
+    }
 }
 
 // Point k, of quantity and heat rate of each in turn.

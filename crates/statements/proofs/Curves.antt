@@ -104,7 +104,7 @@ rises p l = (there p l, back p l)
     back p [] h = tt
     back p (s ∷ l) h = (h 0 (omega arith), back (s .end) l (rises-later p s l h))
 
-never-falls : (l : List Step) → NeverFalling l ↔ NeverFalls l
+pub never-falls : (l : List Step) → NeverFalling l ↔ NeverFalls l
 never-falls [] = ((λ b i h. absurd (omega arith)), λ h. tt)
 never-falls (s ∷ l) = (there s l, back s l)
   where
@@ -183,7 +183,7 @@ sound most room c g = record { few = le-trans (g .0) room; rising = rises (c .st
 sound-bid : (c : Curve) → Good 10 c → SoundBid c
 sound-bid c g = record { few = g .0; sound = sound 10 (omega arith) c g }
 
-sound-default : (c : Curve) → Good 11 c → Sound c
+pub sound-default : (c : Curve) → Good 11 c → Sound c
 sound-default c g = sound 11 (omega arith) c g
 
 -- a bid of at most 10 steps and a default curve of at most 11

@@ -1,4 +1,4 @@
--- Refusals 1 to 3 and 9 to 11, exactly, of every opening that is read from a text and of every opening and bid in numbers: nothing is assumed of them. Assumes nothing.
+-- Refusals 1 to 3, 9 to 11, 23 and 24, exactly, of every opening that is read from a text and of every opening, bid and join in numbers: nothing is assumed of them. Assumes nothing.
 use mathlib.Core.List.{List}
 use mathlib.Core.Path.{_≡_, sym, subst}
 use Prim.Native.Nat.{ℕ, _<_}
@@ -21,6 +21,8 @@ use Rattle.rules_library.specs.Slices.{rawBid}
 use Rattle.rules_library.proofs.ExactBids.{eleven-steps}
 use Rattle.rules_state.specs.Openings.{openingIn}
 use Rattle.rules_state.proofs.ExactNumbers.{full-in-numbers}
+use Rattle.rules_contract.specs.Contracts.{contractRefusal}
+use Rattle.statements.proofs.Contracts.{JoinSays, join-refused}
 use Rattle.statements.proofs.Refusals.{BidPrices, DefaultPrices, CurveSays, edge, m, PMax, bid, pack}
 use Rattle.statements.proofs.RefusedOpenings.{ResourceSays, OpeningSays, resource, resource-of-costs, resource-of-pack, opening}
 
@@ -58,3 +60,8 @@ opening-in-numbers month portfolios sellers resources blocks = says _ (full-in-n
 -- and a bid
 pub bid-in-numbers : (start : ℤ) (count : ℕ) (steps : List ℤ) (month : ℕ) → let x = rawBid start count steps in CurveSays 10 x (BidPrices x month) (bidRefusal month x)
 bid-in-numbers start count steps = bid (rawBid start count steps) (eleven-steps steps)
+
+-- and two parts that are joined
+pub join-in-numbers : (proxy-start : ℤ) (proxy-count : ℕ) (proxy-steps : List ℤ) (above-start : ℤ) (above-count : ℕ) (above-steps : List ℤ)
+    → let a = rawBid proxy-start proxy-count proxy-steps in let b = rawBid above-start above-count above-steps in JoinSays a b (contractRefusal a b)
+join-in-numbers start count steps start' count' steps' = join-refused (rawBid start count steps) (rawBid start' count' steps') (eleven-steps steps) (eleven-steps steps')

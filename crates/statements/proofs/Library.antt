@@ -20,6 +20,8 @@ use Rattle.rules_gas.specs.Book.{runIn, gasRun, lastPrice}
 use Rattle.rules_gas.specs.Booked.{listRefusal, listCurve, bookedRefusal, bookedCurve}
 use Rattle.rules_gas.specs.declared.GasMarket.the-variants.{DayAhead, RealTime}
 use Rattle.rules_gas.proofs.CostAfterBook.{list-21-exactly}
+use Rattle.rules_contract.specs.Contracts.{contractRefusal, joinedCurve}
+use Rattle.rules_contract.proofs.Joins.{joined-room}
 use Rattle.rules_run.specs.Run.{Ended, runRoom, output, endOf, ranWithin, ranTo}
 use Rattle.rules_library.specs.Answers.{ranNumber, toldAnswer, toldPage, toldAfter}
 use Rattle.rules_library.specs.Gas.{listBy, runCount, gasAnswer, gasEdges, gasPrices}
@@ -176,6 +178,11 @@ module _ (edges : List ℕ) (prices : List ℤ) (c : Costs) where
   pub gas-puts : (day : ℕ) (l : List ℕ)
       → PutsCurve edges prices (listRefusal day l c) (listCurve day l c) (gasAnswer edges prices day l c) (gasEdges edges prices day l c) (gasPrices edges prices day l c)
   gas-puts day l = puts edges prices (listRefusal day l c) (listCurve day l c) (priced-steps (lastPrice (runIn day l)) c)
+
+-- two default curves joined
+pub join-puts : (edges : List ℕ) (prices : List ℤ) (a b : RawCurve) → length (a .steps) ≡ 11 → length (b .steps) ≡ 11
+    → let n = contractRefusal a b in let k = joinedCurve a b in PutsCurve edges prices n k (putAnswer edges prices n) (edgesWith edges prices n k) (pricesWith edges prices n k)
+join-puts edges prices a b full-a full-b = puts edges prices (contractRefusal a b) (joinedCurve a b) (joined-room a b full-a full-b)
 
 pub markets-say : (day : ℕ) (ahead real : List ℕ) → MarketsSay day ahead real
 markets-say day ahead real =

@@ -34,11 +34,11 @@ module _ (c : RawCurve) where
   price i = getD (c .steps) i (record { end = pos 0; price = pos 0 }) .price
 
   -- 1 "step count outside 1 to 10"; "refusal 1 allows a default curve 11"
-  abbrev Steps : ℕ → Type 0
+  abbrev pub Steps : ℕ → Type 0
   Steps most = (1 ≤ c .count) × (c .count ≤ most)
 
   -- 2 "an edge outside 0 to 1,000,000, or edges not rising"
-  abbrev Edges : Type 0
+  abbrev pub Edges : Type 0
   Edges = ((i : ℕ) → i ≤ c .count → Within (pos 0) (pos 1000000) (edge i)) × ((i : ℕ) → i < c .count → edge i <ℤ edge (suc i))
 
   -- 3 "price outside its range, or falling"
@@ -135,20 +135,20 @@ pub record CostsSay (c : Costs) (r : ℕ) : Type 0 where
 
 -- ---- from the theorems
 module _ (c : RawCurve) where
-  steps-are : (most : ℕ) → Counted most c ↔ Steps c most
+  pub steps-are : (most : ℕ) → Counted most c ↔ Steps c most
   steps-are most = ((λ h. (h .at-least, h .at-most)), λ h. record { at-least = h .0; at-most = h .1 })
 
   pub edge-is : (i : ℕ) → edge c i ≡ rules.edge c i
   edge-is zero = refl
   edge-is (suc i) = refl
 
-  edges-are : Edged c ↔ Edges c
+  pub edges-are : Edged c ↔ Edges c
   edges-are = (
     (λ h. ((λ i l. rw (edge-is i) (h .within i l)), λ i l. rw (edge-is i) (h .rising i l))),
     λ h. record { within = λ i l. rw (edge-is i) at (h .0 i l); rising = λ i l. rw (edge-is i) at (h .1 i l) },
   )
 
-  prices-are : (low top : ℤ) → Priced low top c ↔ Prices c low top
+  pub prices-are : (low top : ℤ) → Priced low top c ↔ Prices c low top
   prices-are low top = ((λ h. (h .within, h .never-falling)), λ h. record { within = h .0; never-falling = h .1 })
 
   bid-prices-are : (month : ℕ) → BidPriced month c ↔ BidPrices c month

@@ -12,7 +12,7 @@ use Rattle.rules_number.specs.Order.{natOf}
 use Rattle.rules_number.specs.Over.{padded}
 use Rattle.rules_number.proofs.Kit.{var, le-by, le-of, lt-of}
 use Rattle.rules_curve.specs.Conditions.{noStep}
-use Rattle.rules_curve.specs.Curves.{curveOf}
+use Rattle.rules_curve.specs.Curves.{curveOf, packUnless}
 use Rattle.rules_curve.specs.declared.Curve.{Curve}
 use Rattle.rules_curve.specs.declared.RawCurve.{RawCurve}
 use Rattle.rules_curve.specs.declared.RawStep.{RawStep}
@@ -24,7 +24,7 @@ use Rattle.rules_state.specs.Openings.{openingIn}
 use Rattle.rules_state.proofs.ExactNumbers.{full-in-numbers}
 use Rattle.rules_state.proofs.ReadNumbers.{opening-read}
 use Rattle.rules_state.proofs.StandLaws.{stored-at}
-use Rattle.rules_hydro.specs.Hydros.{oneStep, hydroPrice, hydroCurve, hydroRefusal, packUnless, hydroPack}
+use Rattle.rules_hydro.specs.Hydros.{oneStep, hydroPrice, hydroCurve, hydroRefusal, hydroPack}
 use Rattle.rules_hydro.specs.declared.Hydro.{Hydro}
 use Rattle.statements.proofs.Demand3.{resource}
 use Rattle.statements_hydro.proofs.Hydros.{refuses}

@@ -8,13 +8,13 @@ use lib.IntN.{ℤ, pos, _-ℤ_, _*ℤ_}
 use lib.ListN.{getD}
 use lib.Signed.{_≤ℤ_, _<ℤ_}
 use Rattle.rules_number.specs.Over.{padded}
-use Rattle.rules_curve.specs.Curves.{stepTo, stepsOf, curveOf}
+use Rattle.rules_curve.specs.Curves.{stepTo, stepsOf, curveOf, noPack, packUnless}
 use Rattle.rules_curve.specs.Demands.{First}
 use Rattle.rules_curve.specs.Refusals.{numberOf}
 use Rattle.rules_curve.specs.declared.RawStep.{RawStep}
 use Rattle.rules_curve.specs.declared.Refusal.{Refusal}
 use Rattle.rules_hydro.specs.Conditions.{Limited, Quantities}
-use Rattle.rules_hydro.specs.Hydros.{oneStep, hydroPrice, hydroCurve, hydroRefusal, hydroIn, hydroNumber, noPack, packUnless, hydroPack}
+use Rattle.rules_hydro.specs.Hydros.{oneStep, hydroPrice, hydroCurve, hydroRefusal, hydroIn, hydroNumber, hydroPack}
 use Rattle.rules_hydro.specs.Meaning.{AtHub, Priced, SameRead}
 use Rattle.rules_hydro.specs.declared.Hydro.{Hydro}
 use Rattle.rules_hydro.specs.declared.HydroOutcome.the-variants.{Accepted, OutsideLimits, Refused}

@@ -1,7 +1,9 @@
-//! Prints what the first N seeds reach, of texts, of books and of lists of calls: `coverage [N] [first seed]`.
+//! Prints what the first N seeds reach, of texts, of books, of pairs of parts and of lists of calls:
+//! `coverage [N] [first seed]`.
 
 use independent::coverage::books::BookCoverage;
 use independent::coverage::calls::CallCoverage;
+use independent::coverage::contracts::ContractCoverage;
 use independent::coverage::edges::Edges;
 use independent::coverage::Coverage;
 use std::process::ExitCode;
@@ -138,6 +140,44 @@ fn print_books(books: &BookCoverage) {
     println!("accepted, own gas price outside {}", books.own_gas_unread);
 }
 
+fn print_contracts(contracts: &ContractCoverage) {
+    println!("pairs of parts {}", contracts.pairs);
+    println!("joined {}", contracts.joined);
+    println!("  to 11 steps {}", contracts.of_11_steps);
+    println!("  with a price raised {}", contracts.raised);
+    println!("    every one of the second part {}", contracts.all_raised);
+    println!("    to one below 0 {}", contracts.raised_below_0);
+    println!("  with none raised {}", contracts.none_raised);
+    println!(
+        "  with one price where the parts meet {}",
+        contracts.one_price_where_they_meet
+    );
+    println!("  with prices below 0 {}", contracts.prices_negative);
+    println!("  from quantity 0 to 1,000,000 {}", contracts.widest);
+    println!("  with the furthest prices {}", contracts.furthest_prices);
+    for (number, [alone, refused]) in contracts.by_number() {
+        println!("{number} refused {refused}, alone {alone}");
+    }
+    println!("1, 2, 3 for both parts {:?}", contracts.both_parts);
+    println!("first part's number the lower {}", contracts.first_lower);
+    println!("second part's number the lower {}", contracts.second_lower);
+    println!(
+        "23 for a gap {}, an overlap {}",
+        contracts.gaps, contracts.overlaps
+    );
+    println!("23 where 24 applies too {}", contracts.both_23_and_24);
+    println!(
+        "24 for 6 + 6 {}, 11 + 1 {}, 1 + 11 {}",
+        contracts.six_and_six, contracts.eleven_and_one, contracts.one_and_eleven
+    );
+    println!("counts past 32 bits {}", contracts.counts_past_32_bits);
+    println!(
+        "counts past the numbers, joined {}, refused {}",
+        contracts.short_joined, contracts.short_refused
+    );
+    println!("numbers past the count, joined {}", contracts.longer_joined);
+}
+
 fn print_calls(calls: &CallCoverage) {
     println!("lists of calls {}", calls.lists);
     print_list("opening refused (0: opened)", 0, &calls.openings);
@@ -155,6 +195,8 @@ fn print_calls(calls: &CallCoverage) {
         "  with the furthest prices {}",
         calls.packs_at_furthest_prices
     );
+    println!("contracted units {}", calls.contracts);
+    println!("  with a price raised {}", calls.contracts_raised);
     println!("intervals accepted {}", calls.intervals[0]);
     print_list("intervals refused", 12, &calls.intervals[12..17]);
     println!("passes accepted {}", calls.passes[0]);
@@ -174,6 +216,7 @@ fn print_effects(calls: &CallCoverage) {
     println!("passes of a full hour {}", calls.passes_of_a_full_hour);
     println!("curves cut by intervals {}", calls.cuts_in_intervals);
     println!("  with a pack {}", calls.cuts_of_packs);
+    println!("  of contracted units {}", calls.cuts_of_contracts);
     println!("curves cut by passes {}", calls.cuts_in_passes);
     println!("  cut further {}", calls.further_cuts_in_passes);
     println!("five-minute curves begun anew {}", calls.begun_anew);
@@ -199,10 +242,13 @@ fn main() -> ExitCode {
     print_edges(&coverage.edges);
     let books = BookCoverage::of(first..first + count);
     print_books(&books);
+    let contracts = ContractCoverage::of(first..first + count);
+    print_contracts(&contracts);
     let calls = CallCoverage::of(first..first + count);
     print_calls(&calls);
     println!("seconds {:.1}", start.elapsed().as_secs_f64());
-    match coverage.all_reached() && books.all_reached() && calls.all_reached() {
+    let calls = contracts.all_reached() && calls.all_reached();
+    match coverage.all_reached() && books.all_reached() && calls {
         true => ExitCode::SUCCESS,
         false => {
             println!("not all reached");

@@ -19,12 +19,14 @@ pub struct CallCoverage {
     pub packs_refused_too: usize,
     /// Refused for more than 16 portfolios or 64 resources.
     pub counts_over_the_room: usize,
-    /// Resources of opened hours, by source; packs of 11 steps, and packs with a price past any
-    /// that costs give.
+    /// Resources of opened hours, by source; packs of 11 steps, packs with a price past any that
+    /// costs give, and contracted units with a price raised.
     pub costs: usize,
     pub packs: usize,
     pub packs_of_11_steps: usize,
     pub packs_at_furthest_prices: usize,
+    pub contracts: usize,
+    pub contracts_raised: usize,
     /// By refusal number; 0 counts those accepted. Causes are asked before each call.
     pub intervals: [usize; 20],
     pub passes: [usize; 20],
@@ -36,9 +38,10 @@ pub struct CallCoverage {
     pub accepted_after_refused: usize,
     /// Accepted passes after the fourth interval.
     pub passes_of_a_full_hour: usize,
-    /// Curves that an interval changes, and such of resources with a pack.
+    /// Curves that an interval changes, such of resources with a pack, and of contracted units.
     pub cuts_in_intervals: usize,
     pub cuts_of_packs: usize,
+    pub cuts_of_contracts: usize,
     /// Five-minute curves that a pass changes, and such that an earlier pass had changed.
     pub cuts_in_passes: usize,
     pub further_cuts_in_passes: usize,
@@ -91,6 +94,7 @@ impl CallCoverage {
         match offer.source {
             Source::Costs(..) => self.costs_refused_too += too,
             Source::Pack(_) => self.packs_refused_too += too,
+            Source::Contract(_) => assert_eq!(too, 0, "parts that can be joined"),
         }
         let own = [1, 2, 3, 11].iter().position(|&own| own == number);
         if let (Source::Pack(_), Some(at), false) = (&offer.source, own, bid_refused) {
@@ -110,6 +114,11 @@ impl CallCoverage {
                         .iter()
                         .any(|price| price.abs() == 1_000_000_000);
                     self.packs_at_furthest_prices += usize::from(far);
+                }
+                Source::Contract(contract) => {
+                    let raised = contract.joined() != contract.appended();
+                    self.contracts += 1;
+                    self.contracts_raised += usize::from(raised);
                 }
             }
         }
@@ -157,8 +166,10 @@ impl CallCoverage {
         for (index, offer) in case.opening.offers.iter().enumerate() {
             let cuts = usize::from(old[index] != new[index]);
             self.cuts_in_intervals += cuts;
-            if let Source::Pack(_) = offer.source {
-                self.cuts_of_packs += cuts;
+            match offer.source {
+                Source::Costs(..) => {}
+                Source::Pack(_) => self.cuts_of_packs += cuts,
+                Source::Contract(_) => self.cuts_of_contracts += cuts,
             }
             let anew = before.curves[index] != old[index] && before.curves[index] != new[index];
             self.begun_anew += usize::from(anew);
@@ -211,6 +222,8 @@ impl CallCoverage {
                 self.packs,
                 self.packs_of_11_steps,
                 self.packs_at_furthest_prices,
+                self.contracts,
+                self.contracts_raised,
                 self.intervals[0],
                 self.passes[0],
                 self.causes[0],
@@ -220,6 +233,7 @@ impl CallCoverage {
                 self.passes_of_a_full_hour,
                 self.cuts_in_intervals,
                 self.cuts_of_packs,
+                self.cuts_of_contracts,
                 self.cuts_in_passes,
                 self.further_cuts_in_passes,
                 self.begun_anew,

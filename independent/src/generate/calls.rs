@@ -1,8 +1,11 @@
 //! Lists of calls in numbers by seed: an opening with costs and packs, then intervals and passes in
 //! any order, refused ones among them.
 
+use super::contracts::parts_of;
 use super::hours::{self, Shape};
-use super::limits::{around, change_fields_of_a_part, change_relation, change_some_field};
+use super::limits::{
+    change_fields_of_a_part, change_relation, change_some_field, far, of_64_bits, outside,
+};
 use super::model::{part_bytes, Model};
 use super::random::Random;
 use crate::curve::{Curve, Step, FURTHEST_DEFAULT_PRICE};
@@ -46,34 +49,6 @@ fn model(rng: &mut Random, shape: &Shape) -> Model {
         _ => {}
     }
     model
-}
-
-/// Numbers no text can hold.
-fn far(rng: &mut Random) -> i128 {
-    let (lowest, highest) = (i64::MIN.into(), i64::MAX.into());
-    rng.pick(&[
-        lowest,
-        lowest + 1,
-        highest,
-        highest - 1,
-        1 << 62,
-        -(1 << 62),
-    ])
-}
-
-/// The number, or the nearest of 64 bits.
-fn of_64_bits(number: i128) -> i128 {
-    number.clamp(i64::MIN.into(), i64::MAX.into())
-}
-
-/// Outside the limits, or far outside.
-fn outside(rng: &mut Random, lowest: i128, highest: i128, present: i128) -> i128 {
-    of_64_bits(match rng.below(4) {
-        0 => far(rng),
-        1 => around(rng, lowest, highest, present),
-        2 => lowest - 1,
-        _ => highest + 1,
-    })
 }
 
 // ---- packs
@@ -145,7 +120,8 @@ fn break_curve(rng: &mut Random, curve: &mut Curve, most: usize) {
     }
 }
 
-/// A pack near the default curve of the costs, where these give one.
+/// A pack near the default curve of the costs, where these give one; or the parts of a contracted
+/// unit near it.
 fn pack(rng: &mut Random, offer: &mut Offer) {
     let Ok(mut curve) = offer.source.default_energy_bid() else {
         return;
@@ -159,7 +135,8 @@ fn pack(rng: &mut Random, offer: &mut Offer) {
     if rng.once_in(2) {
         other_prices(rng, &mut curve);
     }
-    offer.source = Source::Pack(curve);
+    let contract = rng.once_in(3).then(|| parts_of(rng, &curve)).flatten();
+    offer.source = contract.map_or(Source::Pack(curve), Source::Contract);
 }
 
 fn add_packs(rng: &mut Random, opening: &mut Opening) {
@@ -210,7 +187,7 @@ fn change_offer(rng: &mut Random, offer: &mut Offer) {
             _ => costs.fee = far(rng),
         },
         Source::Pack(curve) if !curve.steps.is_empty() => break_curve(rng, curve, 11),
-        Source::Pack(_) => {}
+        Source::Pack(_) | Source::Contract(_) => {}
     }
 }
 

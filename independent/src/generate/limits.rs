@@ -51,6 +51,34 @@ pub fn around(rng: &mut Random, lowest: i128, highest: i128, present: i128) -> i
     }
 }
 
+/// Numbers no text can hold.
+pub fn far(rng: &mut Random) -> i128 {
+    let (lowest, highest) = (i64::MIN.into(), i64::MAX.into());
+    rng.pick(&[
+        lowest,
+        lowest + 1,
+        highest,
+        highest - 1,
+        1 << 62,
+        -(1 << 62),
+    ])
+}
+
+/// The number, or the nearest of 64 bits.
+pub fn of_64_bits(number: i128) -> i128 {
+    number.clamp(i64::MIN.into(), i64::MAX.into())
+}
+
+/// Outside the limits, or far outside.
+pub fn outside(rng: &mut Random, lowest: i128, highest: i128, present: i128) -> i128 {
+    of_64_bits(match rng.below(4) {
+        0 => far(rng),
+        1 => around(rng, lowest, highest, present),
+        2 => lowest - 1,
+        _ => highest + 1,
+    })
+}
+
 fn first_column(names: &str) -> usize {
     match names {
         MONTH | PARAMETER => 0,

@@ -50,7 +50,8 @@ def _explain_number(number: str, kind: str) -> int:
     try:
         entry = explain(int(number))
     except KeyError:
-        raise Trouble(f"there is no refusal {number}: they are numbered 1 to {max(SENTENCES)}; a file of that name is ./{number}") from None
+        known = f"they are numbered 1 to {max(SENTENCES)} without 22"
+        raise Trouble(f"there is no refusal {number}: {known}; a file of that name is ./{number}") from None
     told = {"number": entry.number, "sentence": entry.sentence, "title": entry.title}
     told.update(when=entry.when, examples=entry.examples, mend=entry.mend)
     show(json.dumps(told, indent=2) + "\n" if kind == "json" else _entry_text(entry))

@@ -7,11 +7,12 @@ use lib.IntN.{ℤ}
 use mir.Syntax.{w64}
 use mir.ValLaws.{toZ-ofZ}
 use Rattle.rules_number.proofs.Kit.{rd, came}
-use Rattle.rules_curve.specs.Curves.{defaultRefusal}
+use Rattle.rules_curve.proofs.Answered.{packed-alone}
+use Rattle.rules_curve.specs.Curves.{defaultRefusal, packUnless}
 use Rattle.rules_curve.specs.Refusals.{outcomeNumber}
-use Rattle.rules_hydro.specs.Hydros.{oneStep, limitsGood, hydroPrice, hydroCurve, hydroRefusal, hydroIn, packUnless}
+use Rattle.rules_hydro.specs.Hydros.{oneStep, limitsGood, hydroPrice, hydroCurve, hydroRefusal, hydroIn}
 use Rattle.rules_hydro.specs.declared.Hydro.{Hydro}
-use Rattle.hydro.proofs.LimitLaws.{outside, inside, none-of, limits-data, price-data, some-number}
+use Rattle.hydro.proofs.LimitLaws.{outside, inside, limits-data, price-data, some-number}
 use Rattle.hydro.proofs.default_over.Statement.{statement}
 use Rattle.hydro.proofs.default_over.Tie as tie
 
@@ -75,7 +76,7 @@ returns-3 c =
     let x = given (k .before .before .before .before .before) in
     let e = sym (ap outcomeNumber (o .outcome .given .1)) ∙ number-is k in
     let some = subst (λ (n : ℕ). 0 < n) (number-is k) (some-number (o .outcome .given .1)) in
-    (c .refused2 .ensures .0 ∙ e, c .refused2 .ensures .1 ∙ sym (none-of (hydroRefusal x) (hydroCurve x) some))
+    (c .refused2 .ensures .0 ∙ e, c .refused2 .ensures .1 ∙ sym (packed-alone (hydroRefusal x) (hydroCurve x) some))
 
 pub default-over-spec : {M : Type 1} → statement M
 default-over-spec =

@@ -7,7 +7,8 @@ use Rattle.rules_curve.specs.Refusals.{outcomeNumber}
 use Rattle.rules_cost.specs.Costs.{costRefusal, costCurve}
 use Rattle.rules_cost.specs.declared.Costs.{Costs}
 use Rattle.rules_library.specs.Slices.{costsIn}
-use Rattle.noskjerf_judgements.proofs.DefaultLaws.{put-same, put-costs}
+use Rattle.put_slices.proofs.PutLaws.{put-same}
+use Rattle.noskjerf_judgements.proofs.DefaultLaws.{put-costs}
 use Rattle.noskjerf_judgements.proofs.noskjerf_default.Statement.{statement}
 use Rattle.noskjerf_judgements.proofs.noskjerf_default.Tie as tie
 

@@ -8,7 +8,7 @@ use Rattle.rules_curve.specs.Refusals.{outcomeNumber}
 use Rattle.rules_gas.specs.Booked.{listRefusal, listCurve}
 use Rattle.rules_library.specs.Gas.{listBy}
 use Rattle.rules_library.specs.Slices.{costsIn}
-use Rattle.noskjerf_judgements.proofs.DefaultLaws.{put-same}
+use Rattle.put_slices.proofs.PutLaws.{put-same}
 use Rattle.noskjerf_judgements.proofs.noskjerf_gas_default.Statement.{statement}
 use Rattle.noskjerf_judgements.proofs.noskjerf_gas_default.Tie as tie
 
