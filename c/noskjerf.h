@@ -69,6 +69,13 @@ extern "C" {
 #define NOSKJERF_DAY_AHEAD 0
 #define NOSKJERF_REAL_TIME 1
 
+/* How many numbers the tally of a constraint is. */
+#define NOSKJERF_TALLY 122
+
+/* How many numbers the hours of noskjerf_designation are, and the marks of noskjerf_mark: of each the bound ones, then the non-competitive. */
+#define NOSKJERF_HOURS 2
+#define NOSKJERF_MARKS 2
+
 /* How many bytes a page lent to noskjerf_run or noskjerf_told has to have. */
 size_t noskjerf_room(void);
 
@@ -320,6 +327,52 @@ int64_t noskjerf_hour_bid(const int64_t *state, size_t state_len, size_t r, uint
  */
 int64_t noskjerf_default_of(const int64_t *state, size_t state_len, size_t r, uint64_t *edges, size_t edges_len, int64_t *prices,
                             size_t prices_len);
+
+/* ---- Sixty-day designations
+ *
+ * Where an assessment fails, a constraint has a default verdict, by how often it was bound and non-competitive in the latest 60 trading days.
+ * Its tally is NOSKJERF_TALLY numbers in an array that the caller keeps, zeros for a fresh one: copy it to keep a tally as it stood.
+ * noskjerf_day changes it and noskjerf_designation reads it. The numbers may be read by the caller:
+ *   0          how many days are held, at most 60
+ *   1          the number of the last day added, 0 where there is none
+ *   2 to 61    the bound hours of each of 60 days, the newest first: bit h stands for hour h, from 0
+ *   62 to 121  the non-competitive hours in the same way
+ * Every content has a meaning, also one that noskjerf_day never wrote: a call on it is answered like any other. Numbers past NOSKJERF_TALLY
+ * are neither read nor written.
+ */
+
+/*
+ * Adds a trading day to a tally: its number, and its hours, bit h of `bound` and of `noncompetitive` for hour h. Of more than 60 days the
+ * oldest goes. Numbers may leave gaps; the first day of a fresh tally may have any.
+ *
+ * Answers 0 and changes the tally. Or it leaves the tally as it was and answers
+ *   25  the number is not above that of the last day added, a mark is past the 24 hours, or a non-competitive hour is not bound
+ * Or it answers -1 where tally_len is below NOSKJERF_TALLY, and leaves the tally as it was.
+ */
+int64_t noskjerf_day(uint32_t *tally, size_t tally_len, uint32_t day, uint32_t bound, uint32_t noncompetitive);
+
+/*
+ * The default verdict on the constraint of a tally.
+ *
+ * Answers 0, competitive, where at least 10 hours are bound and 4 times the competitive ones among them are at least 3 times the bound ones;
+ * else 1, non-competitive, as on a fresh tally. Beside it it fills the first NOSKJERF_HOURS numbers of `hours`:
+ *   0  how many hours of the days held are bound
+ *   1  how many of them are non-competitive
+ * Or it answers -1 where tally_len is below NOSKJERF_TALLY or hours_len below NOSKJERF_HOURS, and leaves `hours` as they were.
+ */
+int64_t noskjerf_designation(const uint32_t *tally, size_t tally_len, uint32_t *hours, size_t hours_len);
+
+/*
+ * Marks an hour of a trading day by the verdicts on the constraint in that hour's intervals, each the first number of a verdict that
+ * noskjerf_interval filled: 0 competitive, 1 non-competitive, 2 not binding. Any other number is not binding either.
+ *
+ * `marks` holds the bound hours and the non-competitive hours of the day as noskjerf_day takes them, 0 and 0 for a day without a mark. The
+ * hour is marked bound where any finding is 0 or 1, and non-competitive where any is 1; marks that are there stay. An hour past the 24 is
+ * marked at bit 24, so that the day is refused (25).
+ *
+ * Answers 0. Or it answers -1 where marks_len is below NOSKJERF_MARKS, and leaves `marks` as they were.
+ */
+int64_t noskjerf_mark(uint32_t *marks, size_t marks_len, size_t hour, const int64_t *findings, size_t findings_len);
 
 #ifdef __cplusplus
 }

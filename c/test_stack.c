@@ -1,4 +1,4 @@
-/* test_stack FILE..: how much stack a run of the texts in the files takes, an hour in numbers and a joined curve: no more than the header says. */
+/* test_stack FILE..: how much stack a run of the texts in the files takes, an hour in numbers, a joined curve and the calls of a tally: no more than the header says. */
 #define _GNU_SOURCE
 #include <pthread.h>
 #include <stdlib.h>
@@ -35,6 +35,18 @@ static void *call_run(void *answer)
 static void *call_told(void *answer)
 {
     *(int64_t *)answer = noskjerf_told(text, length, page, sizeof page, told, NOSKJERF_TOLD);
+    return NULL;
+}
+
+/* A day is marked, added and designated. */
+static void *call_days(void *answer)
+{
+    static const int64_t findings[] = { 2, 0, 1, 2 };
+    static uint32_t tally[NOSKJERF_TALLY], marks[NOSKJERF_MARKS], hours[NOSKJERF_HOURS];
+    int64_t refused = noskjerf_mark(marks, NOSKJERF_MARKS, 17, findings, 4);
+
+    refused += noskjerf_day(tally, NOSKJERF_TALLY, tally[1] + 1, marks[0], marks[1]);
+    *(int64_t *)answer = refused == 0 ? noskjerf_designation(tally, NOSKJERF_TALLY, hours, NOSKJERF_HOURS) : -1;
     return NULL;
 }
 
@@ -123,7 +135,7 @@ static size_t most_of_runs(int count, char **names)
 
 int main(int argc, char **argv)
 {
-    size_t most, hour, join;
+    size_t most, hour, join, days;
 
     if (posix_memalign((void **)&stack, 4096, THREAD_STACK) != 0) {
         return 1;
@@ -132,6 +144,9 @@ int main(int argc, char **argv)
     most = most_of_runs(argc - 1, argv + 1);
     printf("test_stack: a run takes %zu bytes of stack\n", most);
     CHECK(most > 0 && most <= NOSKJERF_RUN_STACK);
+    days = taken(call_days);
+    printf("test_stack: a tally takes %zu bytes of stack\n", days);
+    CHECK(days > 0 && days <= NOSKJERF_STACK);
     hour = taken(call_hour);
     printf("test_stack: an hour in numbers takes %zu bytes of stack\n", hour);
     CHECK(hour > 0 && hour <= NOSKJERF_STACK);

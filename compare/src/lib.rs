@@ -3,6 +3,7 @@
 pub mod books;
 pub mod calls;
 pub mod contracts;
+pub mod designations;
 
 use std::iter::StepBy;
 use std::ops::Range;

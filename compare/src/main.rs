@@ -1,11 +1,12 @@
 //! Runs generated texts through the engine's static library and through the independent implementation, and compares what they print, byte
 //! for byte; then as many books of gas prices, and compares what they answer in both markets; then as many pairs of parts of a contracted
 //! unit's curve, joined; then as many lists of calls in numbers, and compares what every call answers: `compare [TEXTS] [FIRST SEED]`.
+//! Last, lists of trading days and hours marked by verdicts, as many of each or more, and what a tally tells after each.
 //!
 //! A seed gives the same text, book, pair and list each time. A text on which the two differ is shrunk and saved in `failures/`, beside both
 //! outputs; a book, a pair or a list is shown with both answers.
 
-use compare::{books, calls, contracts, counted, seeds, Share};
+use compare::{books, calls, contracts, counted, designations, seeds, Share};
 use independent::compare::shrink;
 use independent::generate;
 use std::fs;
@@ -71,7 +72,8 @@ fn main() -> ExitCode {
     for (kind, differ) in KINDS.iter().zip(found) {
         println!("compare: {tried} {kind}, {differ} differ");
     }
-    if found.iter().sum::<usize>() == 0 {
+    let in_days = designations::compare(seeds);
+    if found.iter().sum::<usize>() + in_days == 0 {
         ExitCode::SUCCESS
     } else {
         ExitCode::FAILURE

@@ -3,6 +3,7 @@
 pub mod books;
 pub mod calls;
 pub mod contracts;
+pub mod days;
 pub mod edges;
 
 use crate::curve::Curve;

@@ -1,12 +1,13 @@
 //! Texts by seed: hours within the limits, the farthest counts and values, values at and past the
 //! limits, damaged texts, counts over the room, texts at the size limit. Equal seeds give equal texts; the class of a text is
 //! its seed's remainder by 64. Beside them, books of gas prices by seed, pairs of parts of a
-//! contracted unit's curve, and lists of calls in numbers.
+//! contracted unit's curve, lists of calls in numbers, and lists of trading days.
 
 pub mod books;
 pub mod calls;
 pub mod contracts;
 mod damage;
+pub mod days;
 mod edges;
 mod hours;
 mod limits;

@@ -5,6 +5,7 @@ pub mod contract;
 pub mod costs;
 pub mod coverage;
 pub mod curve;
+pub mod designation;
 pub mod gas;
 pub mod generate;
 pub mod hour;

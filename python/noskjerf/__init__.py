@@ -5,6 +5,9 @@ gives a `Page` with the verdict on every constraint, the sellers named and the b
 `Refusal`, a number and a line (docs/REFUSALS.md). `Hour` drives an hour in numbers; `bid` judges one bid, `default_curve` works out one
 default energy bid, `join` joins the two parts of a contracted unit's, and `Book` takes the gas price from published prices.
 
+`Tally` keeps how often a constraint was bound and non-competitive in its latest 60 trading days, and `designations` gives the default
+verdicts of a season of texts.
+
 >>> text = '''month
 ... 25
 ... portfolio seller
@@ -42,6 +45,7 @@ threads may call at once; a thread needs a stack of 1 MiB, which is less than Py
 from ._library import LibraryError
 from ._version import __version__
 from .amounts import dollars, mw
+from .designation import Day, Designation, Tally, designations
 from .form import Slip
 from .gas import Book, Entry, Market
 from .hour import Hour
@@ -76,6 +80,8 @@ __all__ = [
     "Charges",
     "Costs",
     "Curve",
+    "Day",
+    "Designation",
     "Entry",
     "Explanation",
     "Factor",
@@ -96,10 +102,12 @@ __all__ = [
     "Seller",
     "Slip",
     "Step",
+    "Tally",
     "Verdict",
     "__version__",
     "bid",
     "default_curve",
+    "designations",
     "dollars",
     "explain",
     "interval_of",

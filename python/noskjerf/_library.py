@@ -53,6 +53,12 @@ HOUR_FUNCTIONS: dict[str, _Signature] = {
     "noskjerf_default_of": (c_int64, [*_STATE, c_size_t, *_CURVE]),
 }
 
+DAY_FUNCTIONS: dict[str, _Signature] = {
+    "noskjerf_day": (c_int64, [_U32, c_size_t, c_uint32, c_uint32, c_uint32]),
+    "noskjerf_designation": (c_int64, [_U32, c_size_t, _U32, c_size_t]),
+    "noskjerf_mark": (c_int64, [_U32, c_size_t, c_size_t, _I64, c_size_t]),
+}
+
 
 class LibraryError(OSError):
     """The shared library is missing, can't be loaded, or lacks a function."""
@@ -93,7 +99,7 @@ def _function(name: str) -> Any:
         function = getattr(_library(), name)
     except AttributeError:
         raise LibraryError(f"{path()} has no {name}; `python/build` makes it whole, by this line in the project's folder: {LINE}") from None
-    function.restype, function.argtypes = {**TEXT_FUNCTIONS, **HOUR_FUNCTIONS}[name]
+    function.restype, function.argtypes = {**TEXT_FUNCTIONS, **HOUR_FUNCTIONS, **DAY_FUNCTIONS}[name]
     return function
 
 

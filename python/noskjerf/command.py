@@ -28,6 +28,7 @@ examples:
   noskjerf explain hour.txt          every figure of the hour, step by step
   noskjerf explain 15                what refusal 15 means and what to mend
   noskjerf diagnose hour.txt         which value a text is refused for
+  noskjerf designations season       default verdicts by the latest 60 trading days
 
 FILE is a text, and - is standard input. The status is 0 where all is accepted, 1 where a text is
 refused, 2 where there is trouble (a file that can't be read, a write that fails). Standard error

@@ -2,12 +2,11 @@
 
 from __future__ import annotations
 
-import copy
 import ctypes
-import threading
 from collections.abc import Sequence
 from typing import Any
 
+from ._kept import Kept
 from ._library import call
 from ._numbers import cells, of_kind, whole
 from ._types import Number
@@ -30,7 +29,7 @@ ACCEPTED = 0
 PASSES = 129
 
 
-class Hour:
+class Hour(Kept):
     """A trading hour that was opened, and what it has taken so far.
 
     A cut made in one interval carries on to the next. A refused call raises its Refusal and leaves the hour as it was. Threads may share
@@ -57,15 +56,20 @@ class Hour:
     noskjerf.refusal.Refusal: hour: fewer than four intervals are accepted (refusal 20)
     """
 
+    _what = "hour"
+
     def __init__(self, opening: Opening) -> None:
         """Opens an hour, as `Hour.open` does."""
         of_kind("opening", opening, Opening)
-        self._lock = threading.Lock()
+        super().__init__()
         self._resources = len(opening.resources)
-        self._state = (ctypes.c_int64 * call("noskjerf_state_room"))()
         sellers, blocks = opening.sellers, [number for resource in opening.resources for number in _block(resource)]
         market = (len(sellers), cells(sellers), len(sellers), self._resources, cells(blocks), len(blocks))
         _accepted(call("noskjerf_open", opening.month, *market, *self._lent()), "opening")
+
+    @classmethod
+    def _blank(cls) -> ctypes.Array[Any]:
+        return (ctypes.c_int64 * call("noskjerf_state_room"))()
 
     @classmethod
     def open(cls, opening: Opening) -> Hour:
@@ -117,60 +121,17 @@ class Hour:
     @property
     def accepted(self) -> int:
         """How many intervals were accepted, 0 to 4."""
-        return self._state[ACCEPTED]
+        return int(self._state[ACCEPTED])
 
     @property
     def passes(self) -> int:
         """How many passes were accepted since the last accepted interval, 0 to 3."""
-        return self._state[PASSES]
-
-    def copy(self) -> Hour:
-        """An hour of its own that stands where this one does."""
-        return copy.copy(self)
-
-    def __copy__(self) -> Hour:
-        other = type(self).__new__(type(self))
-        other.__setstate__(self.__getstate__())
-        return other
-
-    def __deepcopy__(self, memo: dict[int, Any]) -> Hour:
-        other = memo[id(self)] = type(self).__new__(type(self))
-        other.__setstate__(copy.deepcopy(self.__getstate__(), memo))
-        return other
-
-    def __getstate__(self) -> dict[str, Any]:
-        """What a copy or a pickle keeps: the cells as numbers, and no lock."""
-        kept = {name: value for name, value in self.__dict__.items() if name != "_lock"}
-        return {**kept, "_state": self._cells()}
-
-    def __setstate__(self, kept: dict[str, Any]) -> None:
-        room = call("noskjerf_state_room")
-        if len(kept["_state"]) != room:
-            raise ValueError(f"the hour has {len(kept['_state'])} cells, and this version of noskjerf keeps {room}")
-        self.__dict__.update(kept)
-        self._lock = threading.Lock()
-        self._state = (ctypes.c_int64 * room)(*kept["_state"])
-
-    def __eq__(self, other: object) -> bool:
-        if not isinstance(other, Hour):
-            return NotImplemented
-        return self._cells() == other._cells()
-
-    # an hour changes, so that it is no key
-    __hash__ = None  # type: ignore[assignment]
+        return int(self._state[PASSES])
 
     def __repr__(self) -> str:
         kept = self._cells()
         passes = "1 pass" if kept[PASSES] == 1 else f"{kept[PASSES]} passes"
         return f"<{type(self).__name__} of {count(self._resources, 'resource')}: {count(kept[ACCEPTED], 'interval')} accepted, {passes} since>"
-
-    def _cells(self) -> tuple[int, ...]:
-        """All that the hour keeps, as it stands between two calls."""
-        with self._lock:
-            return tuple(self._state)
-
-    def _lent(self) -> tuple[Any, int]:
-        return self._state, len(self._state)
 
     def _judged(self, function: str, asked: tuple[Any, ...], part: str) -> Judged:
         verdicts = (ctypes.c_int64 * (MAX_CONSTRAINTS * VERDICT))()

@@ -38,6 +38,7 @@ SENTENCES = {
     21: "the market's list of gas prices ends inside a pair, its days do not rise, or it has no entry up to the trading day",
     23: "the second part does not start at the first one's last end",
     24: "the two parts have more than 11 steps together",
+    25: "the day's number is not above the last accepted one, a mark is past the 24 hours, or a non-competitive hour is not bound",
 }
 
 # A pack, which stands above the engine and is installed beside this package, is a package called so and more. Its refusals have entries in a REFUSALS.md of its
@@ -53,6 +54,7 @@ class Refusal(Exception):
     "costs", "join", "book", "opening", "interval 1" and so on, "pass" or "hour". `line` is the line of the text, from 1 on, and None for a call.
     For 17 it is the faulty line, or the one after the last where the text ends early; else the last line of the part. `text` is the
     refused text, where it isn't too long; two refusals are the same whatever their texts.
+    Where a tally refuses a trading day, the part is "day 20" and so on.
 
     >>> print(Refusal(15, "interval 1", 23))
     interval 1, line 23: a shadow price, locational price, parameter or shift factor is outside its limits (refusal 15)

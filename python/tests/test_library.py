@@ -64,6 +64,13 @@ def test_the_functions_of_hours_are_those_of_the_header() -> None:
         assert signature == declared[name], name
 
 
+def test_the_functions_of_tallies_are_those_of_the_header() -> None:
+    declared = prototypes()
+    assert set(_library.DAY_FUNCTIONS) == {"noskjerf_day", "noskjerf_designation", "noskjerf_mark"}
+    for name, signature in _library.DAY_FUNCTIONS.items():
+        assert signature == declared[name], name
+
+
 def test_the_limits_are_those_of_the_header() -> None:
     header = (ROOT / "c" / "noskjerf.h").read_text()
     assert f"#define NOSKJERF_MAX_TEXT {noskjerf.MAX_TEXT}\n" in header

@@ -8,7 +8,7 @@ from fractions import Fraction
 from typing import Any, Callable
 
 import pytest
-from noskjerf import Book, Charges, Curve, Entry, Factor, Interval, Market, Opening, Point, Resource, Step, bid, default_curve, join
+from noskjerf import Book, Charges, Curve, Day, Entry, Factor, Interval, Market, Opening, Point, Resource, Step, Tally, bid, default_curve, designations, join
 from noskjerf._numbers import column, whole
 
 WRONG = [
@@ -67,6 +67,14 @@ FIELDS: list[tuple[str, Callable[[Any], object]]] = [
     ("day", lambda n: BOOK.default_curve(Market.DAY_AHEAD, n, POINTS, Charges())),
     ("day", lambda n: Entry(n, 1)),
     ("price", lambda n: Entry(1, n)),
+    ("number", lambda n: Day(n)),
+    ("bound", lambda n: Day(1, n)),
+    ("noncompetitive", lambda n: Day(1, 1, n)),
+    ("hour", lambda n: Day(1).mark(n, [])),
+    ("findings[0]", lambda n: Day(1).mark(0, [n])),
+    ("constraint", lambda n: Day.of(1, {}, n)),
+    ("constraint", lambda n: designations({}, n)),
+    ("cells[1]", lambda n: Tally.from_cells([0, n])),
 ]
 
 

@@ -458,3 +458,38 @@ mod hours {
 }
 
 pub use hours::*;
+
+mod days {
+    /// How many numbers a tally is, the hours of its designation, and the marks of a day.
+    pub const TALLY: usize = 122;
+    pub const HOURS: usize = 2;
+    pub const MARKS: usize = 2;
+
+    extern "C" {
+        fn noskjerf_day(tally: *mut u32, tally_len: usize, day: u32, bound: u32, noncompetitive: u32) -> i64;
+
+        fn noskjerf_designation(tally: *const u32, tally_len: usize, hours: *mut u32, hours_len: usize) -> i64;
+
+        fn noskjerf_mark(marks: *mut u32, marks_len: usize, hour: usize, findings: *const i64, findings_len: usize) -> i64;
+    }
+
+    /// The refusal of a trading day; or 0, and the tally as it leaves it.
+    pub fn day(tally: &mut [u32; TALLY], day: u32, bound: u32, noncompetitive: u32) -> i64 {
+        // SAFETY: the pointer comes with the length of its slice
+        unsafe { noskjerf_day(tally.as_mut_ptr(), tally.len(), day, bound, noncompetitive) }
+    }
+
+    /// The number of the default verdict, and how many hours are bound and non-competitive.
+    pub fn designation(tally: &[u32; TALLY], hours: &mut [u32; HOURS]) -> i64 {
+        // SAFETY: each pointer comes with the length of its slice
+        unsafe { noskjerf_designation(tally.as_ptr(), tally.len(), hours.as_mut_ptr(), hours.len()) }
+    }
+
+    /// Marks an hour by the numbers of its findings.
+    pub fn mark(marks: &mut [u32; MARKS], hour: usize, findings: &[i64]) -> i64 {
+        // SAFETY: each pointer comes with the length of its slice
+        unsafe { noskjerf_mark(marks.as_mut_ptr(), marks.len(), hour, findings.as_ptr(), findings.len()) }
+    }
+}
+
+pub use days::*;

@@ -49,6 +49,8 @@
 //! applies. [`TextHour`] drives one by the text of its parts. [`judgement`] judges one bid, works out one default energy bid or joins the two
 //! parts of a contracted unit's, and [`gas`] takes the gas price from a book of published prices.
 //!
+//! [`designation`] keeps the sixty-day tally of a constraint, by which it is designated where an assessment fails.
+//!
 //! # Building
 //!
 //! The engine is a static library for Linux on x86-64, `libnoskjerf.a`, which `./archive` writes to the project's `target/lib`. The crate
@@ -80,6 +82,7 @@
 #![deny(unsafe_code)]
 #![warn(missing_docs)]
 
+pub mod designation;
 #[allow(unsafe_code)]
 mod ffi;
 pub mod gas;

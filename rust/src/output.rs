@@ -94,6 +94,15 @@ impl Finding {
             _ => None,
         }
     }
+
+    /// The number that it is printed as.
+    pub(crate) fn number(self) -> i64 {
+        match self {
+            Finding::Competitive => 0,
+            Finding::NonCompetitive => 1,
+            Finding::NotBinding => 2,
+        }
+    }
 }
 
 /// A net seller named for a constraint.

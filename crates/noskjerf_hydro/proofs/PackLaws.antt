@@ -1,11 +1,11 @@
 -- A number of the pack has two digits, and an accepted pack is checked as it is. Assumes nothing.
-use mathlib.Core.Path.{_≡_, ap, _∙_}
+use mathlib.Core.Path.{_≡_, refl, ap, _∙_}
 use Prim.Native.Nat.{ℕ, _≤_}
 use native.Mathlib.Omega.{arith}
 use Rattle.rules_curve.specs.Curves.{curveOf, checkedDefault, defaultRefusal, unlessRefused, packUnless}
-use Rattle.rules_curve.specs.Refusals.{unless}
+use Rattle.rules_curve.specs.Refusals.{unless, numberOf}
 use Rattle.rules_curve.proofs.CheckLaws.{then-both}
-use Rattle.rules_curve.proofs.RefusalLaws.{two-digits}
+use Rattle.rules_curve.proofs.RefusalLaws.{told-number}
 use Rattle.rules_hydro.specs.Hydros.{hydroNumber, limitsGood, hydroCurve, hydroRefusal, hydroPack}
 use Rattle.rules_hydro.specs.declared.Hydro.{Hydro}
 use Rattle.rules_hydro.specs.declared.HydroOutcome.{HydroOutcome}
@@ -14,7 +14,7 @@ use Rattle.rules_hydro.specs.declared.HydroOutcome.the-variants.{Accepted, Outs
 pub small : (o : HydroOutcome) → hydroNumber o ≤ 99
 small Accepted = omega arith
 small OutsideLimits = omega arith
-small (Refused r) = two-digits r
+small (Refused r) = told-number r (numberOf r) refl .1
 
 pub checked-pack : (x : Hydro) → hydroRefusal x ≡ 0 → checkedDefault (hydroPack x) ≡ curveOf (hydroCurve x)
 unfolding hydroRefusal

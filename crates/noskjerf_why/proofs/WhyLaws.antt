@@ -3,13 +3,9 @@ use Prim.Native.Nat.{ℕ, _≤_, _<_}
 use mathlib.Core.Path.{_≡_, refl}
 use mathlib.Core.Bool.{Bool, true, false, _&&_}
 use mathlib.Core.List.{List, []}
-use native.Mathlib.Omega.{arith}
 use lib.IntN.{ℤ, pos, negsuc}
 use lib.ListN.{length}
 use lib.Seq.{sets}
-use Rattle.rules_curve.specs.Refusals.{numberOf}
-use Rattle.rules_curve.specs.declared.Refusal.{Refusal}
-use Rattle.rules_curve.proofs.RefusalLaws.{refused-number, two-digits}
 use Rattle.rules_interval.specs.Intervals.{intervalRefusal}
 use Rattle.rules_interval.specs.declared.Interval.{Interval}
 use Rattle.rules_state.specs.Calls.{holds, whyAnswer, causesAfter}
@@ -17,9 +13,6 @@ use Rattle.rules_state.specs.Causes.{causesCells}
 use Rattle.rules_state.specs.Layout.{stateRoom, causeRoom}
 use Rattle.rules_state.specs.States.{marketIn}
 use Rattle.cells.proofs.AnswerLaws as answers
-
-pub few : (r : Refusal) (n : ℕ) → n ≡ numberOf r → (0 < n) × (n ≤ 99)
-few r n e = (omega (arith, refused-number r), omega (arith, two-digits r))
 
 module _ (state causes : List ℤ) (v : Interval) where
   abbrev number : ℕ

@@ -8,7 +8,7 @@ use lib.ListN.{length, getD, List·getD-eq-default}
 use Rattle.rules_number.proofs.OverLaws.{le-or-lt}
 use Rattle.rules_curve.specs.Refusals.{numberOf, outcomeNumber}
 use Rattle.rules_curve.specs.declared.Refusal.{Refusal}
-use Rattle.rules_curve.specs.declared.Refusal.the-variants.{StepCount, Edge, Price, PointCount, Quantity, HeatRate, CostRange, IncrementalRate, Counts, Membership, OutsideDefault, HourFull, ResourceCount, ConstraintCount, IntervalRange, Output, Form, Length, PassTurn, HourOpen, GasBook, PartsApart, PartsTogether}
+use Rattle.rules_curve.specs.declared.Refusal.the-variants.{StepCount, Edge, Price, PointCount, Quantity, HeatRate, CostRange, IncrementalRate, Counts, Membership, OutsideDefault, HourFull, ResourceCount, ConstraintCount, IntervalRange, Output, Form, Length, PassTurn, HourOpen, GasBook, PartsApart, PartsTogether, TradingDay}
 use Rattle.rules_curve.specs.declared.Outcome.{Outcome}
 use Rattle.rules_curve.specs.declared.Outcome.the-variants.{Accepted, Refused}
 
@@ -18,7 +18,7 @@ outcomes =
     Accepted ∷ Refused StepCount ∷ Refused Edge ∷ Refused Price ∷ Refused PointCount ∷ Refused Quantity ∷ Refused HeatRate ∷ Refused CostRange
     ∷ Refused IncrementalRate ∷ Refused Counts ∷ Refused Membership ∷ Refused OutsideDefault ∷ Refused HourFull ∷ Refused ResourceCount
     ∷ Refused ConstraintCount ∷ Refused IntervalRange ∷ Refused Output ∷ Refused Form ∷ Refused Length ∷ Refused PassTurn
-    ∷ Refused HourOpen ∷ Refused GasBook ∷ Accepted ∷ Refused PartsApart ∷ Refused PartsTogether ∷ []
+    ∷ Refused HourOpen ∷ Refused GasBook ∷ Accepted ∷ Refused PartsApart ∷ Refused PartsTogether ∷ Refused TradingDay ∷ []
 
 -- each stands at its number
 at-refusal : (r : Refusal) → getD outcomes (numberOf r) Accepted ≡ Refused r
@@ -46,6 +46,7 @@ at-refusal HourOpen = refl
 at-refusal GasBook = refl
 at-refusal PartsApart = refl
 at-refusal PartsTogether = refl
+at-refusal TradingDay = refl
 
 at-number : (o : Outcome) → getD outcomes (outcomeNumber o) Accepted ≡ o
 unfolding outcomes
@@ -74,6 +75,6 @@ listed (suc n) r e =
 pub refused-number : (r : Refusal) → 0 < numberOf r
 refused-number r = listed (numberOf r) r (at-refusal r) .0
 
--- two digits suffice
-pub two-digits : (r : Refusal) → numberOf r ≤ 99
-two-digits r = listed (numberOf r) r (at-refusal r) .1
+-- as a call tells it, two digits suffice
+pub told-number : (r : Refusal) (n : ℕ) → n ≡ numberOf r → (0 < n) × (n ≤ 99)
+told-number r n e = rw e (listed (numberOf r) r (at-refusal r))

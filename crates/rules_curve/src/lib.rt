@@ -57,6 +57,7 @@ pub enum Refusal {
     GasBook,
     PartsApart,
     PartsTogether,
+    TradingDay,
 }
 
 pub enum Outcome {

@@ -10,7 +10,7 @@ use lib.Pow.{pow-pos, shr-shr}
 use Rattle.rules_path.specs.Verdicts.{bit}
 
 -- the next bit is that of the half
-bit-suc : (p m : ℕ) → bit (suc p) m ≡ bit p (m / 2)
+pub bit-suc : (p m : ℕ) → bit (suc p) m ≡ bit p (m / 2)
 bit-suc p m = ap (λ (z : ℕ). z % 2) (sym (shr-shr m 1 p ∙ ap (λ (z : ℕ). m / 2 ^ z) (omega arith)))
 
 -- half of a sum with a power of two

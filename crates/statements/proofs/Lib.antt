@@ -18,6 +18,7 @@ pub mod Hours
 pub mod Passes
 pub mod HourBids
 pub mod GasBooks
+pub mod Designations
 pub mod Checks
 pub mod Contracts
 pub mod Opened

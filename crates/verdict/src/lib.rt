@@ -19,5 +19,5 @@ pub fn finding_number(finding: Finding) -> u64
 pub fn sellers_named(named: u32) -> u32
     ensures { λ r. ⌜ r ≡ ones named ⌝ }
 {
-    u32::count_ones(named)
+    number::ones_in(named)
 }

@@ -3,19 +3,11 @@ use Prim.Native.Nat.{ℕ, _≤_, _<_}
 use mathlib.Core.Path.{_≡_}
 use mathlib.Core.Bool.{Bool, true, false, _&&_}
 use mathlib.Core.List.{List}
-use native.Mathlib.Omega.{arith}
 use lib.IntN.{ℤ, pos, negsuc}
 use lib.ListN.{length}
 use Rattle.rules_state.specs.Calls.{holds}
-use Rattle.rules_curve.specs.Refusals.{numberOf}
-use Rattle.rules_curve.specs.declared.Refusal.{Refusal}
-use Rattle.rules_curve.proofs.RefusalLaws.{refused-number, two-digits}
 use Rattle.rules_state.specs.Layout.{stateRoom, verdictRoom}
 use Rattle.cells.proofs.AnswerLaws as answers
-
--- the number of a refusal is no 0, and small
-pub few : (r : Refusal) (n : ℕ) → n ≡ numberOf r → (0 < n) × (n ≤ 99)
-few r n e = (omega (arith, refused-number r), omega (arith, two-digits r))
 
 -- the call has this number, and an accepted one leaves the two slices so
 module _ (state verdicts next told : List ℤ) (number : ℕ) where

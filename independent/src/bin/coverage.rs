@@ -1,9 +1,10 @@
-//! Prints what the first N seeds reach, of texts, of books, of pairs of parts and of lists of calls:
+//! Prints what the first N seeds reach, of texts, of books, of pairs of parts, of lists of calls and of trading days:
 //! `coverage [N] [first seed]`.
 
 use independent::coverage::books::BookCoverage;
 use independent::coverage::calls::CallCoverage;
 use independent::coverage::contracts::ContractCoverage;
+use independent::coverage::days::{DayCoverage, HourCoverage};
 use independent::coverage::edges::Edges;
 use independent::coverage::Coverage;
 use std::process::ExitCode;
@@ -232,6 +233,60 @@ fn print_effects(calls: &CallCoverage) {
     println!("most steps in a curve {}", calls.most_steps);
 }
 
+fn print_days(days: &DayCoverage) {
+    println!("lists of trading days {}", days.lists);
+    println!("  without a day {}", days.empty_lists);
+    println!("  most days {}", days.longest);
+    println!("trading days {}", days.days);
+    println!("accepted {}", days.accepted);
+    println!("25 for the last number alone {}", days.equal_numbers);
+    println!("25 for a lower number alone {}", days.lower_numbers);
+    println!("25 for a mark past the hours alone {}", days.past_the_hours);
+    println!("  of both kinds {}", days.past_in_both_kinds);
+    println!("25 for an hour not bound alone {}", days.not_bound);
+    println!("25 for several causes {}", days.several_causes);
+    println!("refused with 60 days held {}", days.refused_when_full);
+    println!(
+        "accepted below a refused number {}",
+        days.accepted_below_refused
+    );
+    println!("first days of number 0 {}", days.first_is_0);
+    println!("days of number 4294967295 {}", days.last_number);
+    println!("days after a gap {}", days.gaps);
+    println!("days without a mark {}", days.without_marks);
+    println!("days bound in 24 hours {}", days.full_days);
+    println!("days all non-competitive {}", days.all_non_competitive);
+    println!("days with marks that went {}", days.marks_gone);
+    print_list("designations", 0, &days.verdicts);
+    println!("designations changed {}", days.verdict_changed);
+    println!("9 bound hours, nothing else lacking {}", days.nine_hours);
+    println!("10 bound hours, competitive {}", days.ten_hours);
+    println!("three quarters exactly {}", days.three_quarters);
+    println!("  of more than 60 days {}", days.three_quarters_of_latest);
+    println!("an hour short of it {}", days.just_below);
+    println!("  of more than 60 days {}", days.just_below_of_latest);
+    print_hours(&days.hours);
+}
+
+fn print_hours(hours: &HourCoverage) {
+    println!("hours marked by verdicts {}", hours.hours);
+    println!("without intervals {}", hours.without_intervals);
+    println!("not binding {}", hours.not_binding);
+    println!("competitive {}", hours.competitive);
+    println!("non-competitive {}", hours.non_competitive);
+    println!(
+        "  by an interval before the last {}",
+        hours.by_an_earlier_interval
+    );
+    println!("hour 0 {}, hour 23 {}", hours.first_hour, hours.last_hour);
+    println!(
+        "hours 24 to 31 {}, past them {}",
+        hours.past_the_hours, hours.past_32
+    );
+    println!("hours marked twice {}", hours.twice);
+    println!("marks kept by an hour not binding {}", hours.mark_kept);
+}
+
 fn main() -> ExitCode {
     let (count, first) = (argument(1, 20_000), argument(2, 0));
     let start = Instant::now();
@@ -246,9 +301,11 @@ fn main() -> ExitCode {
     print_contracts(&contracts);
     let calls = CallCoverage::of(first..first + count);
     print_calls(&calls);
+    let days = DayCoverage::of(first..first + count.div_ceil(20));
+    print_days(&days);
     println!("seconds {:.1}", start.elapsed().as_secs_f64());
-    let calls = contracts.all_reached() && calls.all_reached();
-    match coverage.all_reached() && books.all_reached() && calls {
+    let of_calls = contracts.all_reached() && calls.all_reached() && days.all_reached();
+    match coverage.all_reached() && books.all_reached() && of_calls {
         true => ExitCode::SUCCESS,
         false => {
             println!("not all reached");

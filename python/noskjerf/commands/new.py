@@ -27,12 +27,14 @@ def add(subparsers: Any) -> None:
     parser = subparsers.add_parser("new", help="write a small text to start from", description=DESCRIPTION, epilog=EPILOG)
     for name, low, high, default in (("resources", 1, 64, 3), ("constraints", 0, 32, 1), ("intervals", 0, 4, 2)):
         what = f"how many {name}, {low} to {high} (default: %(default)s)"
-        parser.add_argument(f"--{name}", metavar="N", type=_between(low, high), default=default, help=what)
+        parser.add_argument(f"--{name}", metavar="N", type=between(low, high), default=default, help=what)
     parser.add_argument("-o", "--out", metavar="FILE", default="-", help="the text (default: standard output)")
     parser.set_defaults(main=main)
 
 
-def _between(low: int, high: int) -> Callable[[str], int]:
+def between(low: int, high: int) -> Callable[[str], int]:
+    """What reads a number of a range from the command line."""
+
     def number(argument: str) -> int:
         if not (argument.isascii() and argument.isdigit()) or not low <= int(argument) <= high:
             raise argparse.ArgumentTypeError(f"{argument!r} is not a number from {low} to {high}")

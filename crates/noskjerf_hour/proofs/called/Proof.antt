@@ -19,7 +19,8 @@ use Rattle.rules_state.specs.Intervals.{intervalIn}
 use Rattle.rules_state.specs.Verdicts.{judgedCells}
 use Rattle.rules_state.proofs.TakeLaws.{accepted-length, not-written, written-zero}
 use Rattle.cutting.proofs.AlikeLaws.{over-alike}
-use Rattle.verdict_cells.proofs.CallLaws.{Answered, few, few-cells, few-verdicts, refused, written}
+use Rattle.rules_curve.proofs.RefusalLaws.{told-number}
+use Rattle.verdict_cells.proofs.CallLaws.{Answered, few-cells, few-verdicts, refused, written}
 use Rattle.hour_cells.specs.Calls.{writtenBy}
 use Rattle.hour_cells.proofs.CallLaws.{Called, in-whole, alike-called}
 use Rattle.noskjerf_hour.specs.Calls.{answerBy, stateBy, verdictsBy}
@@ -87,7 +88,7 @@ blank-room : (c : tie.After-none-found) → length (c .none-found .result) ≡ 6
 blank-room c = search needs
 
 small : (c : tie.After-refusal-number) → (0 < c .refusal-number .result) × (c .refusal-number .result ≤ 99)
-small c = few (c .before .before .outcome .given .0 .0) (c .refusal-number .result) (c .refusal-number .ensures)
+small c = told-number (c .before .before .outcome .given .0 .0) (c .refusal-number .result) (c .refusal-number .ensures)
 
 returns : tie.Need-returns
 returns c = let o = c .before in done o (negsuc 0) (o .args .state .now) (o .args .verdicts .now) (few-cells (o .args .state .now) (o .args .verdicts .now) (next o) (told o) (number o) (c .if1 .taken))

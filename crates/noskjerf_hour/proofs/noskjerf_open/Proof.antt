@@ -17,7 +17,7 @@ use Rattle.rules_state.specs.Calls.{calledNumber}
 use Rattle.rules_state.specs.Layout.{stateRoom}
 use Rattle.rules_state.specs.Openings.{openingIn}
 use Rattle.rules_state.specs.OpenedInto.{intoAnswer, openedInto}
-use Rattle.verdict_cells.proofs.CallLaws.{few}
+use Rattle.rules_curve.proofs.RefusalLaws.{told-number}
 use Rattle.noskjerf_hour.proofs.OpenLaws.{answered, few-cells, refused, written}
 use Rattle.noskjerf_hour.proofs.noskjerf_open.Statement.{statement}
 use Rattle.noskjerf_hour.proofs.noskjerf_open.Tie as tie
@@ -46,7 +46,7 @@ number : (k : tie.After-called) → outcomeNumber (k .called .given .0 .0) ≡ o
 number k = ap natOf (sym (ap calledNumber (k .called .given .1)) ∙ answer (call k))
 
 small : (c : tie.After-refusal-number) → (0 < c .refusal-number .result) × (c .refusal-number .result ≤ 99)
-small c = few (c .before .before .outcome .given .0 .0) (c .refusal-number .result) (c .refusal-number .ensures)
+small c = told-number (c .before .before .outcome .given .0 .0) (c .refusal-number .result) (c .refusal-number .ensures)
 
 returns : tie.Need-returns
 returns c = let s = c .before in few-cells (s .args .state .now) (asked s) (c .if1 .taken)

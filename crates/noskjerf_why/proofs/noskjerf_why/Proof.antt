@@ -10,6 +10,7 @@ use mir.Facts.{toZ-pos}
 use mir.Syntax.{w64}
 use Rattle.rules_number.proofs.Kit.{rd, came}
 use Rattle.rules_curve.specs.Refusals.{outcomeNumber}
+use Rattle.rules_curve.proofs.RefusalLaws.{told-number}
 use Rattle.rules_interval.specs.Intervals.{intervalRefusal}
 use Rattle.rules_interval.specs.declared.Interval.{Interval}
 use Rattle.rules_state.specs.Causes.{causesCells}
@@ -19,7 +20,7 @@ use Rattle.rules_state.specs.Takes.{ifAccepted}
 use Rattle.rules_state.proofs.TakeLaws.{not-written, written-zero}
 use Rattle.interval.specs.Over.{intervalOver}
 use Rattle.cutting.proofs.AlikeLaws.{Alike, over-alike, refusal-same, why-causes}
-use Rattle.noskjerf_why.proofs.WhyLaws.{few, few-cells, few-causes, refused, written}
+use Rattle.noskjerf_why.proofs.WhyLaws.{few-cells, few-causes, refused, written}
 use Rattle.noskjerf_why.proofs.noskjerf_why.Statement.{statement}
 use Rattle.noskjerf_why.proofs.noskjerf_why.Tie as tie
 
@@ -61,7 +62,7 @@ caused k =
     rw (held s) at (k .causes-into .ensures .1) ∙ why-causes (lent s) (asked s) (s .args .state .now) (alike s) (s .args .causes .now)
 
 small : (c : tie.After-refusal-number) → (0 < c .refusal-number .result) × (c .refusal-number .result ≤ 99)
-small c = few (c .before .before .outcome .given .0 .0) (c .refusal-number .result) (c .refusal-number .ensures)
+small c = told-number (c .before .before .outcome .given .0 .0) (c .refusal-number .result) (c .refusal-number .ensures)
 
 returns : tie.Need-returns
 returns c = let o = c .before in few-cells (o .args .state .now) (o .args .causes .now) (asked o) (c .if1 .taken)

@@ -6,7 +6,7 @@ use borrow.Author.Needs.{needs}
 use mir.Syntax.{w64}
 use mir.Facts.{toZ-pos}
 use Rattle.rules_curve.specs.Refusals.{outcomeNumber}
-use Rattle.rules_curve.proofs.RefusalLaws.{refused-number, two-digits}
+use Rattle.rules_curve.proofs.RefusalLaws.{told-number}
 use Rattle.put_slices.proofs.PutLaws.{few-edges, few-prices, refused, written}
 use Rattle.put_slices.proofs.put_checked.Statement.{statement}
 use Rattle.put_slices.proofs.put_checked.Tie as tie
@@ -22,7 +22,7 @@ returns-2 c =
     few-prices (a .edges .now) (a .prices .now) (outcomeNumber (a .checked .outcome)) (a .checked .curve) (c .before .if1 .left) (c .if2 .taken)
 
 few : (c : tie.After-refusal-number) → (0 < c .refusal-number .result) × (c .refusal-number .result ≤ 99)
-few c = let r = c .before .before .outcome .given .0 .0 in (omega (arith, c .refusal-number .ensures, refused-number r), omega (arith, c .refusal-number .ensures, two-digits r))
+few c = told-number (c .before .before .outcome .given .0 .0) (c .refusal-number .result) (c .refusal-number .ensures)
 
 cast-result : tie.Need-cast-result
 cast-result c = record { sfits = omega (arith, few c .1) }

@@ -1,0 +1,2 @@
+-- Laws of sets that are numbers.
+pub mod SetLaws
