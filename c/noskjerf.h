@@ -61,6 +61,9 @@ extern "C" {
 /* How many numbers the causes of noskjerf_why are, four of each resource. */
 #define NOSKJERF_CAUSES 256
 
+/* How many numbers noskjerf_pivotal finds: a set, how many were tried, and the floor. */
+#define NOSKJERF_FOUND 3
+
 /* How many numbers the two buffers of an hour's curve have to have. */
 #define NOSKJERF_HOUR_EDGES 22
 #define NOSKJERF_HOUR_PRICES 20
@@ -295,6 +298,26 @@ int64_t noskjerf_sellers(const int64_t *verdicts, size_t verdicts_len, size_t c)
 int64_t noskjerf_why(const int64_t *state, size_t state_len, size_t constraints, const int64_t *shadow, size_t shadow_len, size_t resources,
                      const int64_t *outputs, size_t outputs_len, const int64_t *factors, size_t factors_len, int64_t parameter,
                      int64_t *causes, size_t causes_len);
+
+/*
+ * Looks for the fewest net sellers whose full withholding leaves every binding constraint of an interval with these numbers short: supply less
+ * what they can withhold below demand. The state is only read, and whose turn it is plays no part.
+ *
+ * Bit p of a set's number stands for portfolio p. All net sellers together are the first best. Then their sets are tried in rising order of
+ * their numbers, the empty one left out, until `budget` of them are tried or none is left; a set that works becomes the best where it has fewer
+ * members. Sixteen sellers have 65,535 sets, so that 65,535 always tries all.
+ *
+ * Answers 0 and fills the first NOSKJERF_FOUND numbers of `found`:
+ *   0  the best set; 0 where not even all net sellers together leave every binding constraint short, so that no set of them does
+ *   1  how many sets were tried, the smaller of the budget and how many there are; 0 where none works
+ *   2  the floor: the largest count of sellers that one binding constraint alone needs to be short; 0 where none works. No set that works has
+ *      fewer members, and with all sets tried none has fewer than the best
+ * Or it answers the lowest of 13 to 16 that applies, as noskjerf_interval, or then
+ *   26  no constraint binds
+ */
+int64_t noskjerf_pivotal(const int64_t *state, size_t state_len, size_t constraints, const int64_t *shadow, size_t shadow_len,
+                         size_t resources, const int64_t *outputs, size_t outputs_len, const int64_t *factors, size_t factors_len,
+                         int64_t parameter, uint64_t budget, uint64_t *found, size_t found_len);
 
 /*
  * The bid curve of resource r after the accepted intervals.

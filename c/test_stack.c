@@ -58,10 +58,11 @@ static void *call_hour(void *answer)
                                                     [49] = 40000, 0, 0, 20000, 1000, 3000, 50 };
     static const int64_t shadow[] = { 500000 }, outputs[] = { 600000, 20000, 30000, 0 }, factors[] = { -500000 };
     static int64_t state[NOSKJERF_STATE], verdicts[NOSKJERF_VERDICTS], causes[NOSKJERF_CAUSES], prices[NOSKJERF_HOUR_PRICES];
-    static uint64_t edges[NOSKJERF_HOUR_EDGES];
+    static uint64_t edges[NOSKJERF_HOUR_EDGES], found[NOSKJERF_FOUND];
     int64_t refused = noskjerf_open(25, 1, sellers, 1, 1, blocks, NOSKJERF_BLOCK, state, NOSKJERF_STATE);
 
     refused += noskjerf_why(state, NOSKJERF_STATE, 1, shadow, 1, 1, outputs, 4, factors, 1, 100, causes, NOSKJERF_CAUSES);
+    refused += noskjerf_pivotal(state, NOSKJERF_STATE, 1, shadow, 1, 1, outputs, 4, factors, 1, 100, UINT64_MAX, found, NOSKJERF_FOUND);
     refused += noskjerf_interval(state, NOSKJERF_STATE, 1, shadow, 1, 1, outputs, 4, factors, 1, 100, verdicts, NOSKJERF_VERDICTS);
     refused += noskjerf_pass(state, NOSKJERF_STATE, 1, shadow, 1, 1, outputs, 4, factors, 1, 100, verdicts, NOSKJERF_VERDICTS);
     refused += noskjerf_five_minute(state, NOSKJERF_STATE, 0, edges, NOSKJERF_HOUR_EDGES, prices, NOSKJERF_HOUR_PRICES);

@@ -95,13 +95,13 @@ fn resource(offer: &hour::Offer) -> Resource {
     }
 }
 
-fn opening(opening: &hour::Opening) -> Opening {
+pub fn opening(opening: &hour::Opening) -> Opening {
     let month = Opening::month(small(opening.month));
     let portfolios = opening.sellers.iter().fold(month, |opening, &seller| opening.portfolio(small(seller)));
     opening.offers.iter().fold(portfolios, |opening, offer| opening.resource(resource(offer)))
 }
 
-fn interval(values: &hour::Interval) -> Interval {
+pub fn interval(values: &hour::Interval) -> Interval {
     let mut interval = Interval::new().parameter(small(values.parameter));
     for &shadow in &values.shadow_prices {
         interval = interval.constraint(small(shadow));

@@ -4,6 +4,7 @@ pub mod books;
 pub mod calls;
 pub mod contracts;
 pub mod designations;
+pub mod together;
 
 use std::iter::StepBy;
 use std::ops::Range;

@@ -1,12 +1,13 @@
 //! Runs generated texts through the engine's static library and through the independent implementation, and compares what they print, byte
 //! for byte; then as many books of gas prices, and compares what they answer in both markets; then as many pairs of parts of a contracted
-//! unit's curve, joined; then as many lists of calls in numbers, and compares what every call answers: `compare [TEXTS] [FIRST SEED]`.
-//! Last, lists of trading days and hours marked by verdicts, as many of each or more, and what a tally tells after each.
+//! unit's curve, joined; then as many lists of calls in numbers, and compares what every call answers; then as many intervals with a budget,
+//! and compares which sellers leave them short together: `compare [TEXTS] [FIRST SEED]`. Last, lists of trading days and hours marked by
+//! verdicts, as many of each or more, and what a tally tells after each.
 //!
-//! A seed gives the same text, book, pair and list each time. A text on which the two differ is shrunk and saved in `failures/`, beside both
-//! outputs; a book, a pair or a list is shown with both answers.
+//! A seed gives the same text, book, pair, list and interval each time. A text on which the two differ is shrunk and saved in `failures/`,
+//! beside both outputs; another is shown with both answers.
 
-use compare::{books, calls, contracts, counted, designations, seeds, Share};
+use compare::{books, calls, contracts, counted, designations, seeds, together, Share};
 use independent::compare::shrink;
 use independent::generate;
 use std::fs;
@@ -53,7 +54,13 @@ fn texts(seeds: Share) -> usize {
 }
 
 /// What is compared, as many of each.
-const KINDS: [&str; 4] = ["texts", "books in both markets", "pairs of parts", "lists of calls"];
+const KINDS: [&str; 5] = [
+    "texts",
+    "books in both markets",
+    "pairs of parts",
+    "lists of calls",
+    "intervals with a budget",
+];
 
 /// How many of each kind differ.
 fn differing(seeds: Share) -> [usize; KINDS.len()] {
@@ -61,8 +68,9 @@ fn differing(seeds: Share) -> [usize; KINDS.len()] {
     [
         texts(seeds.clone()),
         books::compare(seeds.clone()),
-        contracts::compare(seeds),
+        contracts::compare(seeds.clone()),
         calls::compare(lists),
+        together::compare(seeds),
     ]
 }
 

@@ -5,6 +5,7 @@ pub mod calls;
 pub mod contracts;
 pub mod days;
 pub mod edges;
+pub mod together;
 
 use crate::curve::Curve;
 use crate::generate;

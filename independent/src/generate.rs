@@ -1,7 +1,8 @@
 //! Texts by seed: hours within the limits, the farthest counts and values, values at and past the
 //! limits, damaged texts, counts over the room, texts at the size limit. Equal seeds give equal texts; the class of a text is
 //! its seed's remainder by 64. Beside them, books of gas prices by seed, pairs of parts of a
-//! contracted unit's curve, lists of calls in numbers, and lists of trading days.
+//! contracted unit's curve, lists of calls in numbers, lists of trading days, and intervals with a
+//! budget.
 
 pub mod books;
 pub mod calls;
@@ -15,6 +16,7 @@ mod model;
 pub mod random;
 mod resources;
 mod room;
+pub mod together;
 
 use damage::damage;
 use model::Model;

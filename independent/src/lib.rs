@@ -13,6 +13,7 @@ pub mod numbers;
 pub mod passes;
 pub mod print;
 pub mod text;
+pub mod together;
 pub mod verdict;
 
 /// All that the program `mitigate` prints for a text.

@@ -72,6 +72,7 @@ from .records import (
 )
 from .refusal import Explanation, Refusal, explain
 from .text import MAX_TEXT, run
+from .together import Together
 
 __all__ = [
     "MAX_TEXT",
@@ -103,6 +104,7 @@ __all__ = [
     "Slip",
     "Step",
     "Tally",
+    "Together",
     "Verdict",
     "__version__",
     "bid",

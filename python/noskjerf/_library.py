@@ -47,6 +47,7 @@ HOUR_FUNCTIONS: dict[str, _Signature] = {
     "noskjerf_interval": (c_int64, [*_STATE, *_INTERVAL, _I64, c_size_t]),
     "noskjerf_pass": (c_int64, [*_STATE, *_INTERVAL, _I64, c_size_t]),
     "noskjerf_why": (c_int64, [*_STATE, *_INTERVAL, _I64, c_size_t]),
+    "noskjerf_pivotal": (c_int64, [*_STATE, *_INTERVAL, c_uint64, _U64, c_size_t]),
     "noskjerf_curve": (c_int64, [*_STATE, c_size_t, *_CURVE]),
     "noskjerf_five_minute": (c_int64, [*_STATE, c_size_t, *_CURVE]),
     "noskjerf_hour_bid": (c_int64, [*_STATE, c_size_t, *_CURVE]),

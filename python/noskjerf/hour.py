@@ -8,25 +8,28 @@ from typing import Any
 
 from ._kept import Kept
 from ._library import call
-from ._numbers import cells, of_kind, whole
+from ._numbers import TOP_U64, cells, of_kind, whole
 from ._types import Number
 from .judgement import filled
 from .records import OUTPUTS, Cause, Costs, Curve, Finding, Interval, Judged, Opening, Resource, Seller, Verdict
 from .refusal import Refusal
+from .together import Together
 from .units import count
 
 MAX_RESOURCES = 64
 MAX_CONSTRAINTS = 32
 MAX_PORTFOLIOS = 16
 
-# A block of an opening: room for eleven steps and eleven points. Numbers of a verdict, and of a cause.
+# A block of an opening: room for eleven steps and eleven points. Numbers of a verdict, of a cause, and of sellers together.
 ROOM = 11
 VERDICT = 4 + MAX_PORTFOLIOS
 CAUSE = 4
+FOUND = 3
 
-# cells of the state that are read here: intervals accepted, passes accepted since the last
+# cells of the state that are read here: intervals accepted, passes accepted since the last, the portfolios' marks
 ACCEPTED = 0
 PASSES = 129
+SELLERS = 323
 
 
 class Hour(Kept):
@@ -96,6 +99,40 @@ class Hour(Kept):
             answer = call("noskjerf_why", *self._lent(), *asked, causes, len(causes))
         _accepted(answer, "interval")
         return tuple(_cause(r, causes[CAUSE * r : CAUSE * (r + 1)]) for r in range(self._resources))
+
+    def together(self, interval: Interval, budget: Number | None = None) -> Together:
+        """The fewest net sellers whose full withholding leaves every binding constraint of an interval short; the hour stays as it is.
+
+        All net sellers together are the first best. Then their sets are tried, up to `budget` of them or all where that is None, in
+        rising order of the number in which bit p stands for portfolio p; a set that works becomes the best where it has fewer members.
+        Raises Refusal 13 to 16, then 26 where no constraint binds.
+
+        Three net sellers with a unit each; the first two have a constraint each that is short without them:
+
+        >>> pack, bid = Curve(0, [(30000, 378402)]), Curve(0, [(30000, 900000)])
+        >>> hour = Hour.open(Opening(month=25, sellers=[1, 1, 1], resources=[Resource(p, bid, pack) for p in range(3)]))
+        >>> units = {"lmp": [600000] * 3, "dispatch": [20000] * 3, "available": [30000] * 3, "floor": [0] * 3}
+        >>> interval = Interval(shadow=[500000, 200000], **units, factors=[(0, 0, -500000), (1, 1, -500000)])
+        >>> hour.together(interval)
+        Together(best=(0, 1), tried=7, floor=1, sets=7)
+        >>> print(hour.together(interval))
+        2 sellers: 0, 1; no fewer can
+        >>> print(hour.together(interval, budget=2))
+        3 sellers: 0, 1, 2; at least 1, at most 3
+        >>> hour.together(Interval(shadow=[0, 0], **units))
+        Traceback (most recent call last):
+        noskjerf.refusal.Refusal: interval: no constraint of the interval binds (refusal 26)
+        """
+        asked = _asked(interval)
+        tries = TOP_U64 if budget is None else whole("budget", budget, 0, TOP_U64)
+        found = (ctypes.c_uint64 * FOUND)()
+        with self._lock:
+            answer = call("noskjerf_pivotal", *self._lent(), *asked, tries, found, len(found))
+            sellers = sum(self._state[SELLERS + p] == 1 for p in range(MAX_PORTFOLIOS))
+        _accepted(answer, "interval")
+        best, tried, floor = found
+        members = tuple(p for p in range(MAX_PORTFOLIOS) if best >> p & 1)
+        return Together(members or None, tried, floor, 2**sellers - 1)
 
     def curve(self, resource: Number) -> Curve:
         """The bid curve of a resource as it stands after the intervals so far."""

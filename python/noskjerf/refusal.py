@@ -39,6 +39,7 @@ SENTENCES = {
     23: "the second part does not start at the first one's last end",
     24: "the two parts have more than 11 steps together",
     25: "the day's number is not above the last accepted one, a mark is past the 24 hours, or a non-competitive hour is not bound",
+    26: "no constraint of the interval binds",
 }
 
 # A pack, which stands above the engine and is installed beside this package, is a package called so and more. Its refusals have entries in a REFUSALS.md of its

@@ -35,6 +35,7 @@ from .shown import (
     resource_stretches,
 )
 from .text import as_bytes, run
+from .together import Together
 from .units import count, decimal, factor, in_dollars, in_mw
 from .workings import ConstraintWorking, Default, Effect, IntervalWorking, Workings, workings
 
@@ -238,7 +239,13 @@ def _verdict_cards(taken: Taken, working: IntervalWorking | None) -> list[str]:
     cards = [_verdict_card(taken, verdict, working.constraints[verdict.constraint] if working else None) for verdict in binding]
     said = [f"<p>Not binding, with a shadow price of $0.00/MWh: constraint{'s' if loose[1:] else ''} {listed(loose)}.</p>"] if loose else []
     none = ["<p>The interval has no constraints.</p>"] if not taken.page.verdicts else []
-    return [*([f'<div class="cards">{"".join(cards)}</div>'] if cards else []), *said, *none]
+    together = [_together(working.together)] if working and working.together else []
+    return [*([f'<div class="cards">{"".join(cards)}</div>'] if cards else []), *together, *said, *none]
+
+
+def _together(found: Together) -> str:
+    """Who leaves every constraint that binds short, in words."""
+    return f'<p>Every binding constraint short together: {escape(str(found))} <small class="tariff">paper 02, 2.11</small></p>'
 
 
 def _verdict_card(taken: Taken, verdict: Verdict, working: ConstraintWorking | None) -> str:

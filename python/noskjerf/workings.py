@@ -1,8 +1,8 @@
 """Every figure of a text's hour, step by step.
 
-Verdicts, demand, left, sellers, default prices, components, competitive and floor prices and curves are the engine's answers. The figures in
-between, which it doesn't hand out, are worked out here from the text's own numbers as the paper has them; what they come to is compared with the
-engine's answer, and `differences` names each that isn't the same.
+Verdicts, demand, left, sellers, who leaves every binding constraint short together, default prices, components, competitive and floor prices
+and curves are the engine's answers. The figures in between, which it doesn't hand out, are worked out here from the text's own numbers as the
+paper has them; what they come to is compared with the engine's answer, and `differences` names each that isn't the same.
 """
 
 from __future__ import annotations
@@ -17,6 +17,7 @@ from .parts import Parts, read
 from .records import Cause, Charges, Costs, Curve, Finding, Interval, Opening, Page, Point, Seller, Step
 from .refusal import Refusal
 from .text import run
+from .together import Together
 
 
 @dataclass(frozen=True)
@@ -140,11 +141,12 @@ class Effect:
 
 @dataclass(frozen=True)
 class IntervalWorking:
-    """An accepted interval."""
+    """An accepted interval; who leaves every binding constraint short together, where one binds."""
 
     interval: int
     parameter: int | None
     constraints: tuple[ConstraintWorking, ...]
+    together: Together | None
     resources: tuple[Effect, ...]
 
 
@@ -310,7 +312,8 @@ def _intervals(parts: Parts, pages: Sequence[Page], resources: Sequence[Resource
             _effect(page.interval, interval, constraints, cause, resources[r], (curves[r], after[r]), differs) for r, cause in enumerate(causes)
         )
         curves = after
-        yield IntervalWorking(page.interval, interval.parameter, constraints, effects)
+        together = _together(page.interval, parts.opening.sellers, hour, interval, constraints, differs)
+        yield IntervalWorking(page.interval, interval.parameter, constraints, together, effects)
 
 
 def _factors(interval: Interval) -> dict[tuple[int, int], int]:
@@ -340,6 +343,40 @@ def _shares(opening: Opening, interval: Interval, c: int) -> Iterator[Share]:
         if e > 0:
             available, floor = interval.available[r], interval.floor[r]
             yield Share(r, resource.portfolio, e, e * interval.dispatch[r], e * available, e * (available - floor))
+
+
+def _together(
+    number: int, sellers: Sequence[int], hour: Hour, interval: Interval, constraints: Sequence[ConstraintWorking], differs: Differences
+) -> Together | None:
+    binding = [each for each in constraints if each.finding is not Finding.NOT_BINDING]
+    if not binding:
+        return None
+    found = hour.together(interval)
+    amounts = [_withholdable(each, sellers) for each in binding]
+    needs = [_need(each, list(by_portfolio.values())) for each, by_portfolio in zip(binding, amounts)]
+    floor = 0 if None in needs else max(need or 0 for need in needs)
+    differs.compare(f"interval {number}: sellers that one constraint alone needs", floor, found.floor)
+    if found.best is not None:
+        withheld = [sum(by_portfolio.get(p, 0) for p in found.best) for by_portfolio in amounts]
+        short = all(each.supply - amount < each.demand for each, amount in zip(binding, withheld))
+        differs.compare(f"interval {number}: sellers {found.best} leave every binding constraint short", short, True)
+    return found
+
+
+def _withholdable(constraint: ConstraintWorking, sellers: Sequence[int]) -> dict[int, int]:
+    """What each net seller can withhold on a constraint."""
+    shares = constraint.shares
+    return {p: sum(share.withholdable for share in shares if share.portfolio == p) for p, mark in enumerate(sellers) if mark == 1}
+
+
+def _need(constraint: ConstraintWorking, amounts: list[int]) -> int | None:
+    """How many sellers a constraint alone needs to be short, those that can withhold most first; None where all aren't enough."""
+    left = constraint.supply
+    for need, amount in enumerate(sorted(amounts, reverse=True), start=1):
+        left -= amount
+        if left < constraint.demand:
+            return need
+    return None
 
 
 def _effect(

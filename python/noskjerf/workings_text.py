@@ -87,6 +87,9 @@ def _interval(interval: IntervalWorking) -> Iterator[str]:
     yield ""
     for constraint in interval.constraints:
         yield from _constraint(constraint)
+    if interval.together is not None:
+        yield f"Every binding constraint short together: {interval.together}"
+        yield ""
     for effect in interval.resources:
         yield from _effect(effect, interval.parameter or 0)
 
@@ -124,5 +127,5 @@ def _differences(found: Workings) -> Iterator[str]:
         yield "These figures differ from the engine's:"
         yield from (f"  {line}" for line in found.differences)
     else:
-        yield "Default prices, verdicts, components, competitive and floor prices and curves are the engine's answers; the figures in between"
-        yield "are worked out from the text's own numbers, and come to the same."
+        yield "Default prices, verdicts, sellers together, components, competitive and floor prices and curves are the engine's answers; the"
+        yield "figures in between are worked out from the text's own numbers, and come to the same."

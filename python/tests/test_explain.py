@@ -8,7 +8,7 @@ from dataclasses import replace
 from pathlib import Path
 
 import pytest
-from noskjerf import Cause, Interval, default_curve
+from noskjerf import Cause, Interval, Together, default_curve
 from noskjerf import workings as module
 from noskjerf._library import has_hours
 from noskjerf.command import main
@@ -41,11 +41,11 @@ def test_a_refusal_in_json() -> None:
     assert f"**Mend**: {told['mend']}" in REFUSALS
 
 
-@pytest.mark.parametrize("number", ["0", "22", "26", "-1", "007000"])
+@pytest.mark.parametrize("number", ["0", "22", "27", "-1", "007000"])
 def test_no_such_refusal(number: str) -> None:
     done = noskjerf("explain", number)
     assert (done.status, done.out) == (2, b"")
-    assert f"there is no refusal {number}: they are numbered 1 to 25 without 22" in done.line
+    assert f"there is no refusal {number}: they are numbered 1 to 26 without 22" in done.line
 
 
 def test_a_file_called_as_a_number(tmp_path: Path) -> None:
@@ -193,6 +193,9 @@ class Otherwise:
     def why(self, interval: Interval) -> tuple[Cause, ...]:
         cause = Cause(0, True, 250_000_000_000, 350_000, 350_100)
         return (replace(cause, **self.other),)
+
+    def together(self, interval: Interval) -> Together:
+        return Together((0,), tried=1, floor=1, sets=1)
 
 
 def test_the_paper_s_figures_of_case_t_agree(monkeypatch: pytest.MonkeyPatch) -> None:

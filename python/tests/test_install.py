@@ -216,10 +216,10 @@ def test_the_archive_is_made_where_there_is_no_target_and_tells_of_each_crate_as
         "archive: below_noskjerf_judgements proved (3 s)",
         "archive: noskjerf_judgements proved, for C",
     ]
-    assert len(rest) == 12
+    assert len(rest) == 14
     assert rest[-1] == "archive: target/lib/libnoskjerf.a"
     made = subprocess.run(["ar", "t", tmp_path / "target" / "lib" / "libnoskjerf.a"], capture_output=True, text=True, check=True)
-    assert sorted(made.stdout.split()) == sorted(f"noskjerf{which}.o" for which in ("", "_judgements", "_hour", "_curves", "_why", "_days"))
+    assert sorted(made.stdout.split()) == sorted(f"noskjerf{which}.o" for which in ("", "_judgements", "_hour", "_curves", "_why", "_days", "_pivotal"))
 
 
 def test_what_is_not_proved_is_shown_whole_and_makes_no_archive(tmp_path: Path) -> None:

@@ -199,6 +199,9 @@ mod hours {
     pub const CAUSES: usize = 64 * CAUSE;
     pub const CAUSE: usize = 4;
 
+    /// How many numbers are found of sellers together.
+    pub const FOUND: usize = 3;
+
     /// How many numbers the two buffers of a mitigated curve have: how many steps, the start and twenty ends; twenty prices.
     pub const HOUR_EDGES: usize = 2 + HOUR_PRICES;
     pub const HOUR_PRICES: usize = 20;
@@ -283,6 +286,23 @@ mod hours {
             parameter: i64,
             causes: *mut i64,
             causes_len: usize,
+        ) -> i64;
+
+        fn noskjerf_pivotal(
+            state: *const i64,
+            state_len: usize,
+            constraints: usize,
+            shadow: *const i64,
+            shadow_len: usize,
+            resources: usize,
+            outputs: *const i64,
+            outputs_len: usize,
+            factors: *const i64,
+            factors_len: usize,
+            parameter: i64,
+            budget: u64,
+            found: *mut u64,
+            found_len: usize,
         ) -> i64;
 
         fn noskjerf_curve(
@@ -417,6 +437,29 @@ mod hours {
                 interval.parameter,
                 causes.as_mut_ptr(),
                 causes.len(),
+            )
+        }
+    }
+
+    /// The refusal of an interval's values, or 26; or 0, the fewest sellers that leave it short together, the sets tried and the floor.
+    pub fn pivotal(state: &State, interval: &Interval<'_>, budget: u64, found: &mut [u64; FOUND]) -> i64 {
+        // SAFETY: each pointer comes with the length of its slice
+        unsafe {
+            noskjerf_pivotal(
+                state.as_ptr(),
+                state.len(),
+                interval.shadow.len(),
+                interval.shadow.as_ptr(),
+                interval.shadow.len(),
+                interval.resources,
+                interval.outputs.as_ptr(),
+                interval.outputs.len(),
+                interval.factors.as_ptr(),
+                interval.factors.len(),
+                interval.parameter,
+                budget,
+                found.as_mut_ptr(),
+                found.len(),
             )
         }
     }

@@ -1,5 +1,9 @@
 //! An hour in numbers: opened, driven by intervals and five-minute passes, and asked for its curves, without a text.
 
+mod together;
+
+pub use together::Together;
+
 use crate::ffi::{self, BLOCK, CAUSE, CAUSES, HOUR_EDGES, HOUR_PRICES, STATE, VERDICT, VERDICTS};
 use crate::judgement::{in_turn, refused_or_not, worked_out, Charges, DefaultCurve, Point, Refused};
 use crate::{Finding, Seller, Step};

@@ -44,3 +44,31 @@ module _ {A B : Type 0} (room : Bool) (number : ℕ) (w s : List A) (x t : List 
 
   pub written : room ≡ true → number ≡ 0 → (a : List A) → a ≡ w → (b : List B) → b ≡ x → Answers (pos 0) a b
   written h e a f b g = let k = by-answer (pos 0) (numbered h 0 e) in (k .0, (f ∙ k .1 .0, g ∙ k .1 .1))
+
+-- a call that reads a state of m cells and puts what it finds into a slice of n, which an accepted one leaves as w
+module _ {A B : Type 0} (m n number : ℕ) (state : List A) (found w : List B) where
+  abbrev both : Bool
+  both = holds m state && holds n found
+
+  abbrev pub Told : ℤ → List B → Type 0
+  Told z s = (z ≡ answerOf both number) × (s ≡ ifWritten (answerOf both number) w found)
+
+  -- of a call with two lent slices, which are one here
+  alone : (z : ℤ) (s t : List B) → Answers both number w found w found z s t → Told z s
+  alone z s t k = (k .0, k .1 .0)
+
+  pub few-state : length state < m → Told (negsuc 0) found
+  few-state h = alone _ _ _ (too-short both number w found w found (first-fails (holds m state) (holds n found) (short m state h)))
+
+  module _ (h : m ≤ length state) where
+    by-found : (b : Bool) → holds n found ≡ b → both ≡ b
+    by-found b e = first-holds (holds m state) (holds n found) b (long m state h) e
+
+    pub few-found : length found < n → Told (negsuc 0) found
+    few-found k = alone _ _ _ (too-short both number w found w found (by-found false (short n found k)))
+
+    pub told-refused : n ≤ length found → (r : ℕ) → 0 < r → number ≡ r → Told (pos r) found
+    told-refused k r l e = alone _ _ _ (refused both number w found w found (by-found true (long n found k)) r l e)
+
+    pub told-written : n ≤ length found → number ≡ 0 → (out : List B) → out ≡ w → Told (pos 0) out
+    told-written k z out o = alone _ _ _ (written both number w found w found (by-found true (long n found k)) z out o out o)

@@ -1,7 +1,7 @@
 -- Laws of numbers put in turn. Assumes nothing.
 use Prim.Native.Nat.{ℕ, suc, _+_, _*_, _≤_, _<_}
 use mathlib.Core.Path.{_≡_, refl, sym, ap, _∙_}
-use mathlib.Core.List.{List, [], _∷_, map, flatMap}
+use mathlib.Core.List.{List, [], _∷_, _++_, map, flatMap, append-assoc, append-nil}
 use native.Mathlib.Nat.{add-zero}
 use native.Mathlib.Omega.{arith}
 use lib.ListN.{length, drop, getD, set, drop-of-length-le}
@@ -28,6 +28,12 @@ module _ {A B : Type 0} (f : A → B) (l : List A) (before : List B) (at : ℕ) 
 
   pub ends : (out : List B) (i : ℕ) → Left out i → length l ≤ i → out ≡ sets before at (map f l)
   ends out i e h = put-done f l out _ i (at + i) e h
+
+-- blocks, and one more
+pub flat-last : {A B : Type 0} (f : A → List B) (l : List A) (x : A) → flatMap f (l ++ (x ∷ [])) ≡ flatMap f l ++ f x
+unfolding flatMap
+flat-last f [] x = append-nil (f x)
+flat-last f (y ∷ l) x = ap (λ (r : List _). f y ++ r) (flat-last f l x) ∙ sym (append-assoc (f y) (flatMap f l) (f x))
 
 -- a loop that puts a block of w numbers for each element
 module _ {A B : Type 0} (f : A → List B) (w : ℕ) (l : List A) (before : List B) (at : ℕ) where

@@ -115,7 +115,7 @@ module _ (n : ℕ) (v w : Interval) (s : Alike n v w) where
 
 -- ---- verdicts and cuts
 module _ (m : Market) (v w : Interval) (s : Alike (m .resources) v w) (rows : m .resources ≤ 64) (few : v .constraints ≤ 32) where
-  path-same : (c : ℕ) → c < v .constraints → Same (pathIn m v c) (pathIn m w c)
+  pub path-same : (c : ℕ) → c < v .constraints → Same (pathIn m v c) (pathIn m w c)
   path-same c h = record {
     binding = ap (ltZ (pos 0)) (s .shadow c (omega arith));
     resources = refl;

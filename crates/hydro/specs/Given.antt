@@ -1,4 +1,4 @@
--- What the helpers are given.
+-- What the private functions are given.
 use mathlib.Core.List.{List}
 use Prim.Native.Nat.{ℕ}
 use lib.IntN.{ℤ, pos}

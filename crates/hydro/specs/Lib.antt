@@ -1,2 +1,2 @@
--- What the helpers are given.
+-- What the private functions are given.
 pub mod Given

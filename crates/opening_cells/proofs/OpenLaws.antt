@@ -25,6 +25,7 @@ use Rattle.rules_state.specs.Layout.{mostResources, mostPortfolios, marketFrom,
 use Rattle.rules_state.specs.Openings.{blockOf, resourceIn, openingIn}
 use Rattle.rules_state.specs.States.{cellOf, floorsCells, standingCells, quarterCells, marketCells, rowCells}
 use Rattle.rules_state.specs.Takes.{ifAccepted}
+use Rattle.cells.proofs.PutLaws.{flat-last}
 use Rattle.opening_cells.proofs.CurveLaws.{market-put}
 use Rattle.opening_cells.proofs.RunLaws.{over-front}
 
@@ -180,11 +181,6 @@ pub taken : {A : Type 0} (n : ℕ) (x y : A) → n ≡ 0 → ifAccepted n x y �
 taken n x y e = rw e
 
 -- ---- rows put one after the other
-flat-last : {A B : Type 0} (f : A → List B) (l : List A) (x : A) → flatMap f (l ++ (x ∷ [])) ≡ flatMap f l ++ f x
-unfolding flatMap
-flat-last f [] x = append-nil (f x)
-flat-last f (y ∷ l) x = ap (λ (r : List _). f y ++ r) (flat-last f l x) ∙ sym (append-assoc (f y) (flatMap f l) (f x))
-
 module _ (row : ℕ → Row) (s : List ℤ) (from : ℕ) where
   abbrev pub rowsTo : ℕ → List ℤ
   rowsTo n = flatMap rowCells (listed row n)

@@ -45,7 +45,7 @@ module _ (shadow : ℤ) (by : List ℕ) (factors outputs : List ℤ) (resources 
   tallied = soldOf (pos 0) by factors outputs resources c
 
   module _ (t : Tallied) (t-is : t ≡ tallyOf tallied) where
-    offers-are : t .offers ≡ offers judged
+    pub offers-are : t .offers ≡ offers judged
     unfolding offers offer withholdable share
     offers-are =
         ap (λ (x : Tallied). x .offers) t-is

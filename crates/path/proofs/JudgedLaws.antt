@@ -19,7 +19,7 @@ use Rattle.rules_state.specs.Takes.{ifAccepted}
 use Rattle.rules_state.specs.Verdicts.{verdictCells, verdictsCells}
 use Rattle.cells.proofs.PutLaws.{BlocksLeft, blocks-begin, blocks-go-on, blocks-end}
 
-pub refused-cells : (n : ℕ) (written l : List ℤ) → 0 < n → l ≡ ifAccepted n written l
+pub refused-cells : {A : Type 0} (n : ℕ) (written l : List A) → 0 < n → l ≡ ifAccepted n written l
 refused-cells zero written l h = absurd (omega arith)
 refused-cells (suc n) written l h = refl
 

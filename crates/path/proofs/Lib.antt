@@ -6,3 +6,4 @@ pub mod LargestLaws
 pub mod JudgeLaws
 pub mod JudgedLaws
 pub mod MarketLaws
+pub mod OfferLaws

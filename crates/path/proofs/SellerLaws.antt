@@ -73,7 +73,7 @@ module _ (shadow : ℤ) (factors dispatch available floor : List ℤ) (m : Marke
   amount : ℕ → ℕ
   amount r = effect judged r * (natOf (getD available r (pos 0)) - natOf (getD floor r (pos 0)))
 
-  offer-same : (p : ℕ) → p < 16 → offer sold p ≡ offer judged p
+  pub offer-same : (p : ℕ) → p < 16 → offer sold p ≡ offer judged p
   unfolding offer withholdable share amount
   offer-same p l = rw (getD-replicate {A = ℕ} 16 p 1 0 l) (go (eqb (at (m .seller) p) 1) refl)
     where

@@ -1,2 +1,3 @@
 -- Definitions that the contracts of the crate cite.
 pub mod Tallies
+pub mod Offered

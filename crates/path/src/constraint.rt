@@ -4,14 +4,16 @@ use rules_interval::Interval;
 use rules_path::Market;
 use rules_path::Verdict;
 ghost use mathlib.Core.Path.{_≡_};
+ghost use mathlib.Core.List.{_∷_};
 ghost use Prim.Native.Nat.{_<_, _≤_, _+_, _*_};
 ghost use lib.IntN.{pos, natAbs};
-ghost use lib.ListN.{replicate};
+ghost use lib.ListN.{length, replicate};
 ghost use lib.Seq.{sets};
 ghost use Rattle.rules_path.specs.Paths.{effectiveness, largest, top};
 ghost use Rattle.rules_path.specs.Verdicts.{verdictOf};
 ghost use Rattle.rules_state.specs.Layout.{verdictWidth, verdictRoom};
 ghost use Rattle.rules_state.specs.Verdicts.{verdictCells};
+ghost use Rattle.path.specs.Offered.{offerWidth, offerRoom, offeredRow};
 ghost use Rattle.path.specs.Tallies.{SoundOver, Reaches, Held, Within, Sold, soldOf, tallied, tallyOf, topOf, Clear, withheldCells};
 
 // What a pass over the resources adds up, beside what each net seller can withhold.
@@ -82,7 +84,7 @@ fn tally_of<'a>(
 }
 
 // The number of the largest of the first n amounts; ties: the lower number.
-fn largest_to(w: &[u64; Market::MAX_PORTFOLIOS], n: usize) -> usize
+pub(crate) fn largest_to(w: &[u64; Market::MAX_PORTFOLIOS], n: usize) -> usize
     requires { ⌜ (0 < n) × (n ≤ 16) ⌝ }
     ensures { λ r. ⌜ (r ≡ largest (now (w .entry)) n) × (r < 16) ⌝ }
 {
@@ -188,4 +190,47 @@ pub(crate) fn judge_into<'a>(
     verdicts[at + 1] = tally.demand as i64;
     verdicts[at + 2] = left as i64;
     verdicts[at + 3] = top.named as i64;
+}
+
+// Puts an amount and what each portfolio offers.
+fn put_offers(
+    offered: &mut [u64; crate::OFFER_ROOM],
+    at: usize,
+    lack: u64,
+    offers: &[u64; Market::MAX_PORTFOLIOS],
+)
+    requires { ⌜ (at + offerWidth ≤ offerRoom) × (length (now offers) ≡ 16) ⌝ }
+    ensures { λ r. ⌜ now (offered .exit) ≡ sets (now (offered .entry)) at (lack ∷ now (offers .entry)) ⌝ }
+{
+    offered[at] = lack;
+    let mut p: usize = 0;
+    while p < Market::MAX_PORTFOLIOS {
+        offered[at + 1 + p] = offers[p];
+        p += 1;
+    }
+}
+
+// Puts what net sellers can withhold on constraint c, whose shadow price is given: the least amount that leaves it short, and what each portfolio offers; zeros where it
+// doesn't bind.
+pub(crate) fn offer_into<'a>(
+    sellers: &'a [u8; Interval::MAX_RESOURCES],
+    shadow: i64,
+    factors: &'a [i64],
+    outputs: &'a [i64],
+    resources: usize,
+    c: usize,
+    offered: &mut [u64; crate::OFFER_ROOM],
+)
+    requires { ⌜ SoundOver (now factors) (now outputs) resources c ⌝ }
+    ensures { λ r. ⌜ now (offered .exit) ≡ sets (now (offered .entry)) (offerWidth * c) (offeredRow (soldOf shadow (now (sellers .entry)) (now (factors .entry)) (now (outputs .entry)) resources c)) ⌝ }
+{
+    let mut offers = [0u64; Market::MAX_PORTFOLIOS];
+    let at = crate::OFFER_WIDTH * c;
+    if shadow <= 0 {
+        put_offers(offered, at, 0, &offers);
+        return;
+    }
+    let tally = tally_of(sellers, factors, outputs, resources, c, &mut offers);
+    let lack = tally.supply + 1 - tally.demand;
+    put_offers(offered, at, lack, &offers);
 }

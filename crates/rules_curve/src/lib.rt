@@ -58,6 +58,7 @@ pub enum Refusal {
     PartsApart,
     PartsTogether,
     TradingDay,
+    NothingBinds,
 }
 
 pub enum Outcome {

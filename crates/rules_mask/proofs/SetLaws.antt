@@ -27,11 +27,11 @@ in-or-not p m = go (ℕ-discrete (bit p m) 1)
     go (yes e) = inl e
     go (no e) = inr (omega (arith, bit-two p m))
 
-below-pow : (n : ℕ) → n < 2 ^ n
+pub below-pow : (n : ℕ) → n < 2 ^ n
 below-pow zero = omega arith
 below-pow (suc n) = omega (arith, pow-suc 2 n, below-pow n)
 
-half-below : (k m : ℕ) → m < 2 ^ suc k → m / 2 < 2 ^ k
+pub half-below : (k m : ℕ) → m < 2 ^ suc k → m / 2 < 2 ^ k
 half-below k m h = omega (arith, pow-suc 2 k)
 
 -- a number without a bit from n on is below 2 ^ n

@@ -17,6 +17,16 @@ use Rattle.rules_number.proofs.SumLaws.{sum-add, sum-mono}
 use Rattle.rules_path.proofs.LargestLaws.{struck, struck-le}
 use Rattle.rules_path.proofs.TopLaws.{Among, total-le, Pick, some, none, pick, top-total, top-short, top-absent}
 
+-- ---- demand is at most supply where no dispatch is above what is available
+sum-le-sum : (f g : ℕ → ℕ) (n : ℕ) → ((i : ℕ) → i < n → f i ≤ g i) → sumTo f n ≤ sumTo g n
+unfolding sumTo
+sum-le-sum f g zero h = le-refl 0
+sum-le-sum f g (suc n) h = omega (arith, sum-le-sum f g n (λ i l. h i (omega arith)), h n (omega arith))
+
+pub demand-within : (d : Path) → ((r : ℕ) → r < d .resources → d .dispatch r ≤ d .available r) → demand d ≤ supply d
+unfolding demand supply
+demand-within d h = sum-le-sum _ _ (d .resources) (λ r l. mul-le-mul-left (effect d r) (h r l))
+
 -- ---- what the offers say
 beyond : (l : List ℕ) (i : ℕ) → 0 < at l i → i < length l
 beyond [] i h = absurd (omega arith)
@@ -53,12 +63,12 @@ module _ (d : Path) where
       go false t = let z : at (offers d) p ≡ 0 = e ∙ rw t in absurd (omega arith)
 
   -- ---- the two ways between the statement and the amounts
-  possible-among : (l : List Withheld) → Possible d l → Among (offers d) (d .portfolios) l
+  pub possible-among : (l : List Withheld) → Possible d l → Among (offers d) (d .portfolios) l
   unfolding Possible Among
   possible-among [] h = tt
   possible-among (x ∷ l) h = (h .0 .0, le-trans (h .1) (le-of-eq (sym (offer-of-seller (x .who) (h .0)))), h .2, possible-among l (h .3))
 
-  top-possible : (k : ℕ) (w : List ℕ) (n : ℕ) → ((i : ℕ) → at w i ≤ at (offers d) i) → Possible d (top k w n)
+  pub top-possible : (k : ℕ) (w : List ℕ) (n : ℕ) → ((i : ℕ) → at w i ≤ at (offers d) i) → Possible d (top k w n)
   unfolding top Possible
   top-possible zero w n h = tt
   top-possible (suc k) w n h =

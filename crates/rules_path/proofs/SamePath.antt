@@ -47,7 +47,7 @@ module _ (d e : Path) (s : Same d e) where
   unfolding offer
   offer-same p h = ap₂ (λ (x y : ℕ). cond (eqb x 1) y 0) (s .seller p h) (withholdable-same p)
 
-  offers-same : offers d ≡ offers e
+  pub offers-same : offers d ≡ offers e
   unfolding offers
   offers-same = listed-same (offer d) (offer e) (d .portfolios) offer-same ∙ ap (listed (offer e)) (s .portfolios)
 

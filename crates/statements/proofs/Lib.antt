@@ -19,6 +19,7 @@ pub mod Passes
 pub mod HourBids
 pub mod GasBooks
 pub mod Designations
+pub mod Pivotals
 pub mod Checks
 pub mod Contracts
 pub mod Opened

@@ -1,4 +1,4 @@
-//! Prints what the first N seeds reach, of texts, of books, of pairs of parts, of lists of calls and of trading days:
+//! Prints what the first N seeds reach, of texts, of books, of pairs of parts, of lists of calls, of trading days and of sellers together:
 //! `coverage [N] [first seed]`.
 
 use independent::coverage::books::BookCoverage;
@@ -6,6 +6,7 @@ use independent::coverage::calls::CallCoverage;
 use independent::coverage::contracts::ContractCoverage;
 use independent::coverage::days::{DayCoverage, HourCoverage};
 use independent::coverage::edges::Edges;
+use independent::coverage::together::TogetherCoverage;
 use independent::coverage::Coverage;
 use std::process::ExitCode;
 use std::time::Instant;
@@ -287,6 +288,49 @@ fn print_hours(hours: &HourCoverage) {
     println!("marks kept by an hour not binding {}", hours.mark_kept);
 }
 
+fn print_together(together: &TogetherCoverage) {
+    println!("sellers together asked {}", together.asked);
+    print_list("refused", 13, &together.refused);
+    print_list(
+        "refused where nothing binds too",
+        13,
+        &together.refused_and_none_binds,
+    );
+    println!("26 without a constraint {}", together.no_constraint);
+    println!("26 with some {}", together.none_binds);
+    println!("asked of a full hour {}", together.full_hours);
+    println!("no set works {}", together.none);
+    println!("  for the net buyers' part {}", together.none_for_buyers);
+    println!("best is all net sellers {}", together.kept);
+    println!("best replaced once {}", together.replaced);
+    println!("best by steps {}", together.by_steps);
+    println!("a tie kept {}", together.ties);
+    println!("all tried, best at the floor {}", together.at_floor);
+    println!("all tried, best above the floor {}", together.above_floor);
+    println!("  by two or more {}", together.two_above_floor);
+    println!("budget cut short {}", together.cut_short);
+    println!("  above the fewest {}", together.cut_short_above);
+    print_more_together(together);
+}
+
+fn print_more_together(together: &TogetherCoverage) {
+    println!("budgets of 0 {}", together.budgets_of_0);
+    println!("budgets past 63 bits {}", together.budgets_past_63_bits);
+    println!(
+        "one seller fewer leaves just demand {}",
+        together.at_equality
+    );
+    println!("those needed leave one less {}", together.one_below);
+    println!("members that withhold nothing {}", together.idle_members);
+    println!(
+        "constraints that don't bind decide {}",
+        together.idle_constraints
+    );
+    println!("floors above 3 {}", together.floors_above_3);
+    println!("32 binding constraints {}", together.binding_32);
+    println!("most net sellers {}", together.most_sellers);
+}
+
 fn main() -> ExitCode {
     let (count, first) = (argument(1, 20_000), argument(2, 0));
     let start = Instant::now();
@@ -303,9 +347,12 @@ fn main() -> ExitCode {
     print_calls(&calls);
     let days = DayCoverage::of(first..first + count.div_ceil(20));
     print_days(&days);
+    let together = TogetherCoverage::of(first..first + count);
+    print_together(&together);
     println!("seconds {:.1}", start.elapsed().as_secs_f64());
-    let of_calls = contracts.all_reached() && calls.all_reached() && days.all_reached();
-    match coverage.all_reached() && books.all_reached() && of_calls {
+    let of_calls = contracts.all_reached() && calls.all_reached();
+    let of_requests = days.all_reached() && together.all_reached();
+    match coverage.all_reached() && books.all_reached() && of_calls && of_requests {
         true => ExitCode::SUCCESS,
         false => {
             println!("not all reached");

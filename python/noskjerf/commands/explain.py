@@ -17,8 +17,8 @@ from ..workings_text import workings_text
 DESCRIPTION = """\
 With a number, a refusal in words: when it is told, an example and what to mend. With a text, every
 figure of its hour: the checks in their order; the default energy bids step by step; each
-constraint's demand, supply, sellers and verdict; each resource's component by constraint,
-competitive price, floor price, caps and cuts."""
+constraint's demand, supply, sellers and verdict; who leaves all that bind short together; each
+resource's component by constraint, competitive price, floor price, caps and cuts."""
 EPILOG = """\
 examples:
   noskjerf explain 15
