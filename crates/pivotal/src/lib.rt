@@ -243,8 +243,14 @@ pub fn found<'a>(
     parameter: i64,
     budget: u64,
 ) -> Answer
-    ensures number { λ r. ⌜ outcomeNumber (r .outcome) ≡ pivotalRefusal (marketIn (now (state .entry))) (intervalOver constraints (now (shadow .entry)) resources (now (outputs .entry)) (now (factors .entry)) parameter) ⌝ }
-    ensures found { λ r. ⌜ r .found ≡ pivotalOf (marketIn (now (state .entry))) (intervalOver constraints (now (shadow .entry)) resources (now (outputs .entry)) (now (factors .entry)) parameter) budget ⌝ }
+    ensures number { λ r.
+        let market = marketIn (now (state .entry)) in
+        let interval = intervalOver constraints (now (shadow .entry)) resources (now (outputs .entry)) (now (factors .entry)) parameter in
+        ⌜ outcomeNumber (r .outcome) ≡ pivotalRefusal market interval ⌝ }
+    ensures found { λ r.
+        let market = marketIn (now (state .entry)) in
+        let interval = intervalOver constraints (now (shadow .entry)) resources (now (outputs .entry)) (now (factors .entry)) parameter in
+        ⌜ r .found ≡ pivotalOf market interval budget ⌝ }
     ensures in_budget { λ r. ⌜ r .found .tried ≤ budget ⌝ }
 {
     let mut rows = [0u64; path::OFFER_ROOM];
