@@ -138,7 +138,10 @@ bid_again b s few =
 -- a member of a list stands at some place
 place : {A : Type 0} (d : A) {x : A} (l : List A) → Memᴰ x l → (k : ℕ) × (k < length l) × (get_or l k d ≡ x)
 place d [] m = absurd (Memᴰ.not-nil m)
-place d (y ∷ l) m = ⊎_elim (λ q. (0, omega arith, sym q)) (λ i. let r = place d l i in let s = r.1 in (suc r.0, omega arith, r.2)) (Memᴰ.cases_cons m)
+place {A} d {x} (y ∷ l) m = ⊎_elim (λ q. (0, omega arith, sym q)) (λ i. next_place (place d l i)) (Memᴰ.cases_cons m)
+  where
+    next_place : (k : ℕ) × (k < length l) × (get_or l k d ≡ x) → (k : ℕ) × (k < length (y ∷ l)) × (get_or (y ∷ l) k d ≡ x)
+    next_place r = (suc r.0, omega (arith, r.1), r.2)
 
 at_place : (b c : RawCurve) → Memᴰ c classroom_bids → blanked b ≡ c → IsListed b
 unfolding classroom_bid
@@ -153,7 +156,7 @@ listed_all month b full e d =
     let few : b.count ≤ length b.steps = omega (arith, met.0.at_most) in
     let n : length (raw_steps b) ≡ b.count = omega (arith, length-take b.count b.steps) in
     let ends : length (ends_in b) ≡ length (raw_steps b) = length-map (raw_steps b) (λ s. s.end) in
-    let found = listed_by (ends_in b) (prices_in b) (omega (arith, met.0.at_least_lem)) (ends ∙ sym (length-map (raw_steps b) (λ s. s.price)))
+    let found = listed_by (ends_in b) (prices_in b) (omega (arith, met.0.at_least)) (ends ∙ sym (length-map (raw_steps b) (λ s. s.price)))
     (used_all (λ s. s.end) (λ x. Memᴰ x drill_ends) b.count b.steps few d.ends)
     (each_used ◌<ℤ◌ <-trans (λ s. s.end) b.count b.steps few (λ i h. met.1.0.rising (suc i) h))
     (used_all (λ s. s.price) (λ x. Memᴰ x drill_prices) b.count b.steps few d.prices)

@@ -220,4 +220,4 @@ module _ (c : Costs) (good : Quantified c) (some : 0 < c.count) where
 pub accepted_curve : (c : Costs) → cost_refusal c ≡ 0 → (k : Curve) → IsDefaultCurve c k ↔ Alike k (cost_curve c)
 accepted_curve c e k =
     let a = (cost_accepted c).0 e in
-    curve_exactly c a.1 (omega (arith, a.0.at_least_lem)) k
+    curve_exactly c a.1 (omega (arith, a.0.at_least)) k

@@ -1,14 +1,15 @@
 // The default curve from costs (paper 01, Default curve from costs; 39.7.1.1.1.1). No code.
+#![tactic(auto)]
 
 // A point of the heat curve: quantity and average heat rate.
-#[derive(Drop)]
+#[derive(Clone, Copy)]
 pub struct Point {
     pub mw: i64,
     pub heat: i64,
 }
 
 // A resource's costs as they are read: the count may be more than its room.
-#[derive(Drop)]
+#[derive(Clone, Copy)]
 pub struct Costs {
     pub count: usize,
     pub points: [Point; Costs::MAX_POINTS],

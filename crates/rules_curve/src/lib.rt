@@ -1,14 +1,15 @@
 // Curves as submitted and as checked, and the refusals (paper 01, Curve; Refused, by place). No code.
+#![tactic(auto)]
 
 // A step as it is read.
-#[derive(Drop)]
+#[derive(Clone, Copy)]
 pub struct RawStep {
     pub end: i64,
     pub price: i64,
 }
 
 // A curve as it is read: the count may be more than its room.
-#[derive(Drop)]
+#[derive(Clone, Copy)]
 pub struct RawCurve {
     pub start: i64,
     pub count: usize,
@@ -16,14 +17,14 @@ pub struct RawCurve {
 }
 
 // A step of a curve: it ends before `end` hundredths of a megawatt.
-#[derive(Drop)]
+#[derive(Clone, Copy)]
 pub struct Step {
     pub end: u64,
     pub price: i64,
 }
 
 // A curve: a submitted bid or a default energy bid.
-#[derive(Drop)]
+#[derive(Clone, Copy)]
 pub struct Curve {
     pub start: u64,
     pub count: usize,
@@ -31,14 +32,14 @@ pub struct Curve {
 }
 
 // The price of a quantity, which a curve has only between its start and its end.
-#[derive(Drop)]
+#[derive(Clone, Copy)]
 pub enum Quote {
     Price(i64),
     Outside,
 }
 
 // Why a call is refused, one for each number of paper 01's table and of the requests of paper 02.
-#[derive(Drop)]
+#[derive(Clone, Copy)]
 pub enum Refusal {
     StepCount,
     Edge,
@@ -67,14 +68,14 @@ pub enum Refusal {
     NothingBinds,
 }
 
-#[derive(Drop)]
+#[derive(Clone, Copy)]
 pub enum Outcome {
     Accepted,
     Refused(Refusal),
 }
 
 // What a check answers: the curve, or a blank one and the refusal.
-#[derive(Drop)]
+#[derive(Clone, Copy)]
 pub struct Checked {
     pub outcome: Outcome,
     pub curve: Curve,

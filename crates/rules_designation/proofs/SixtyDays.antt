@@ -141,7 +141,7 @@ module _ (f : Day → ℕ) (blank : f no_day ≡ 0) (below : (l : List Day) (d :
   unfolding counted sum_to
   counted_by_lem zero [] s = refl
   counted_by_lem zero (d ∷ l) s = refl
-  counted_by_lem (suc n) [] s = rw blank (none (suc n))
+  counted_by_lem (suc n) [] s = sum_same (λ i. ones (mask_at f [] i)) (λ i. ones 0) (suc n) (λ i h. ap ones blank) ∙ none (suc n)
   counted_by_lem (suc n) (d ∷ l) s =
       sum_shift (λ i. ones (mask_at f (d ∷ l) i)) n ∙ ap₂ (λ (j k : ℕ). j + k) (ones_bits 24 (f d) (below l d s.0)) (counted_by_lem n l s.1)
 

@@ -1,7 +1,8 @@
 // The tally of a constraint over sixty trading days, and its default verdict (paper 02, 2.10; 39.7.3.1, 39.7.3.2). No code.
+#![tactic(auto)]
 
 // A trading day of one constraint: bit h of a mask stands for hour h, counted from 0.
-#[derive(Drop)]
+#[derive(Clone, Copy)]
 pub struct Day {
     pub number: u32,
     pub bound: u32,
@@ -9,7 +10,7 @@ pub struct Day {
 }
 
 // The last sixty accepted days of one constraint: how many they are, the number of the last one, and their masks, the newest day first. Past the days held the masks are 0.
-#[derive(Drop)]
+#[derive(Clone, Copy)]
 pub struct Tally {
     pub days: u32,
     pub last: u32,

@@ -1,14 +1,15 @@
 // The book of gas prices (paper 02, 2.7; 39.7.1.1.1.3; refusal 21). No code.
+#![tactic(auto)]
 
 // The market whose list of a book is meant.
-#[derive(Drop)]
+#[derive(Clone, Copy)]
 pub enum GasMarket {
     DayAhead,
     RealTime,
 }
 
 // The gas price in use, or none where the book gives 21.
-#[derive(Drop)]
+#[derive(Clone, Copy)]
 pub enum GasPrice {
     Is(u32),
     Missing,

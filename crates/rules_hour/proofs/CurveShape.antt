@@ -11,7 +11,7 @@ use Rattle.rules_mitigation.specs.declared.FloorPrice.{FloorPrice}
 use Rattle.rules_mitigation.specs.declared.FloorPrice.TheVariants.{Uncut}
 use Rattle.rules_mitigation.proofs.MitigatedCurve.{mitigated_is, mitigated_only, twenty_suffice}
 use Rattle.rules_interval.specs.declared.Interval.{Interval}
-use Rattle.rules_hour.specs.Hours.{uncut, floor_in, curve_in, hour_after_all}
+use Rattle.rules_hour.specs.Hours.{floor_in, curve_in, hour_after_all}
 use Rattle.rules_opening.specs.Openings.{opening_refusal}
 use Rattle.rules_hour.specs.Opened.{opened_hour}
 use Rattle.rules_hour.specs.Demand3.{submitted, default_of, hour_of, curve_after}

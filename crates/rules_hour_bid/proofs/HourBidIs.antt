@@ -1,7 +1,7 @@
 -- The bid for the hour is the lowest of the four intervals' curves and, while cuts carry on, the fourth (paper 02, 2.2). Assumes nothing.
 use mathlib.Core.List.Memᴰ
 use mathlib.Core.List.{List, [], ◌∷◌, ◌++◌, append_assoc, append-nil, Memᴰ}
-use mathlib.Core.Logic.{◌↔◌, inl, inr, ⊎_elim}
+use mathlib.Core.Logic.{◌↔◌, inr, ⊎_elim}
 use mathlib.Core.Path.{◌≡◌, refl, sym, ap, subst, ◌∙◌}
 use Prim.Native.Nat.{ℕ, zero, suc, ◌+◌, ◌≤◌, ◌<◌}
 use native.Mathlib.Omega.{arith}
@@ -17,7 +17,6 @@ use Rattle.rules_number.proofs.LeastLaws.{least_only}
 use Rattle.rules_number.proofs.OrderLaws.{min_le_left}
 use Rattle.rules_number.proofs.OverLaws.{le_or_lt}
 use Rattle.rules_curve.specs.Curves.{price_at}
-use Rattle.rules_curve.specs.Refusals.{unless}
 use Rattle.rules_curve.specs.declared.Step.{Step}
 use Rattle.rules_curve.proofs.CheckLaws.{unless_holds}
 use Rattle.rules_mitigation.specs.Mitigation.{capped, most_mitigated_steps, blank_mitigated, used_steps}

@@ -1,7 +1,8 @@
 // An interval as it is read, and its limits (paper 01, Interval and hour: Limits; Refused, by place: 13 to 16). No code.
+#![tactic(auto)]
 
 // An interval as it is read: counts may be more than the room. The factor of resource r on constraint c stands at r * 32 + c.
-#[derive(Drop)]
+#[derive(Clone, Copy)]
 pub struct Interval {
     pub constraints: usize,
     pub shadow: [i64; Interval::MAX_CONSTRAINTS],

@@ -1,6 +1,5 @@
 -- How many sets there are within a set. Assumes nothing.
-use mathlib.Core.Bool.{Bool, true, false, ◌&&◌, cond}
-use mathlib.Core.Logic.{⊎_elim}
+use mathlib.Core.Bool.{Bool, true, false, cond}
 use mathlib.Core.Path.{◌≡◌, refl, sym, ap, ◌∙◌}
 use Prim.Native.Nat.{ℕ, zero, suc, ◌+◌, ◌*◌, ◌-◌, ◌/◌, ◌%◌, ◌^◌, ◌≤◌, ◌<◌}
 use native.Mathlib.Nat.{pow-suc}
@@ -8,10 +7,7 @@ use native.Mathlib.Omega.{arith}
 use borrow.Author.Tests.{eqb-true, eqb-false, eq-eqb, ne_eqb}
 use lib.Bits.{bit_and, and_step, and_zero_l}
 use lib.Count.{ones, ones_step}
-use lib.Dec.{eqb}
-use lib.Pow.{pow-add}
 use Rattle.rules_number.specs.Over.{sum_to}
-use Rattle.rules_number.proofs.OverLaws.{never}
 use Rattle.rules_mask.specs.Masks.{is_within, sets_to, sets_in}
 use Rattle.rules_mask.proofs.SetLaws.{sum_shift, below_pow}
 use Rattle.rules_mask.proofs.SizeLaws.{within_le}

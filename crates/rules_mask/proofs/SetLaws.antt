@@ -50,8 +50,8 @@ low_bits n m none = go m (below_pow m)
     go (suc k) h = ⊎_elim (λ l. le_trans h (pow_mono l)) (λ l. go k (off k h (none k (omega arith)))) (le_or_lt (suc k) n)
 
 -- ---- each member of the one is one of the other
-bit_and : (p a b : ℕ) → bit p (bit_and a b) ≡ min (bit p a) (bit p b)
-bit_and p a b = ap (λ (z : ℕ). z % 2) (and_shr a b p) ∙ omega (arith, and_step (a / 2 ^ p) (b / 2 ^ p))
+bit_and_lem : (p a b : ℕ) → bit p (bit_and a b) ≡ min (bit p a) (bit p b)
+bit_and_lem p a b = ap (λ (z : ℕ). z % 2) (and_shr a b p) ∙ omega (arith, and_step (a / 2 ^ p) (b / 2 ^ p))
 
 and_is : (k s m : ℕ) → s < 2 ^ k → ((p : ℕ) → bit p s ≤ bit p m) → bit_and s m ≡ s
 and_is zero s m h each = let z : s ≡ 0 = omega arith in rw z (and_zero_l m)
@@ -62,23 +62,23 @@ and_is (suc k) s m h each =
 
 pub within_exactly : (m s : ℕ) → (is_within m s ≡ true) ↔ ((p : ℕ) → bit p s ≤ bit p m)
 within_exactly m s = (
-  (λ e p. let z : bit p (bit_and s m) ≡ bit p s = ap (bit p) (eqb-true (bit_and s m) s e) in omega (arith, bit_and p s m)),
+  (λ e p. let z : bit p (bit_and s m) ≡ bit p s = ap (bit p) (eqb-true (bit_and s m) s e) in omega (arith, bit_and_lem p s m)),
   λ each. eq-eqb (bit_and s m) s (and_is s s m (below_pow s) each),
 )
 
 -- ---- a member more: it is in the set, and the others stay in or out
-bit_or : (p a b : ℕ) → bit p (bit_or a b) ≡ max (bit p a) (bit p b)
-bit_or p a b = ap (λ (z : ℕ). z % 2) (or_shr a b p) ∙ omega (arith, or_step (a / 2 ^ p) (b / 2 ^ p))
+bit_or_lem : (p a b : ℕ) → bit p (bit_or a b) ≡ max (bit p a) (bit p b)
+bit_or_lem p a b = ap (λ (z : ℕ). z % 2) (or_shr a b p) ∙ omega (arith, or_step (a / 2 ^ p) (b / 2 ^ p))
 
 pub member_in : (p m : ℕ) → bit p (with_member p m) ≡ 1
 member_in p m =
     let this : bit p (2 ^ p) ≡ 1 = ap (bit p) (sym (add-zero (2 ^ p))) ∙ add_bit_same p 0 (bit_zero p) in
-    omega (arith, bit_or p m (2 ^ p), bit_two p m)
+    omega (arith, bit_or_lem p m (2 ^ p), bit_two p m)
 
 pub member_other : (p q m : ℕ) → q ≢ p → bit q (with_member p m) ≡ bit q m
 member_other p q m d =
     let other : bit q (2 ^ p) ≡ 0 = ap (bit q) (sym (add-zero (2 ^ p))) ∙ add_bit_other q p 0 (bit_zero p) d ∙ bit_zero q in
-    omega (arith, bit_or q m (2 ^ p))
+    omega (arith, bit_or_lem q m (2 ^ p))
 
 -- ---- the count of ones is the sum of the bits
 pub sum_shift : (f : ℕ → ℕ) (n : ℕ) → sum_to f (suc n) ≡ f 0 + sum_to (λ i. f (suc i)) n

@@ -1,8 +1,10 @@
 // The mitigated curve of a bid (paper 01, Interval and hour; 31.2.3, 34.1.5). No code.
+#![tactic(auto)]
+
 use rules_curve::Step;
 
 // A bid after its cuts.
-#[derive(Drop)]
+#[derive(Clone, Copy)]
 pub struct Mitigated {
     pub start: u64,
     pub count: usize,
@@ -10,7 +12,7 @@ pub struct Mitigated {
 }
 
 // The lowest floor price (paper 01's L) of the intervals that cut a resource, or none.
-#[derive(Drop)]
+#[derive(Clone, Copy)]
 pub enum FloorPrice {
     Uncut,
     Cut(i64),

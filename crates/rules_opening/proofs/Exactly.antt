@@ -3,7 +3,7 @@
 use mathlib.Core.Bool.{true}
 use mathlib.Core.List.{[], ◌∷◌}
 use mathlib.Core.Logic.{◌↔◌, ◌⊎◌, inl, inr}
-use mathlib.Core.Path.{◌≡◌, refl}
+use mathlib.Core.Path.{◌≡◌, refl, sym, subst}
 use Prim.Native.Nat.{ℕ, zero, suc, ◌<◌}
 use native.Mathlib.Omega.{arith}
 use lib.IntN.{ℤ, pos, negsuc, nat_abs}
@@ -70,7 +70,8 @@ module _ (o : Opening) where
     each_first : Limited o → First (each_to (λ r. resource_refusal (nat_of o.month) (resource o r)) o.resources) (each_resource o)
     each_first h =
         first_each (λ r. resource_refusal (nat_of o.month) (resource o r)) (λ r. resource_demands (nat_abs o.month) (resource o r)) o.resources
-        (λ r l. rw (month_is o.month h.month.0) (resource_first (nat_abs o.month) (resource o r) (full r l (omega (arith, h.resources.1)))))
+        (λ r l. subst (λ (m : ℕ). First (resource_refusal m (resource o r)) (resource_demands (nat_abs o.month) (resource o r))) (sym (month_is o.month h.month.0))
+        (resource_first (nat_abs o.month) (resource o r) (full r l (omega (arith, h.resources.1)))))
 
     -- ---- the theorems
     pub opening_first : First (opening_refusal o) (opening_demands o)

@@ -60,7 +60,7 @@ module _ (x : Resource) (full : Full x) (count : Counted 10 x.bid) (edges : Edge
       × (pos 0 ≤ℤ default_start s x) × (pos 0 ≤ℤ default_end s x)
   unfolding curve_of cost_curve
   from_to source.Costs met =
-      let few = met.0.at_least_lem in
+      let few = met.0.at_least in
       (refl, cost_end x.costs few, (met.1.0.within 0 (omega arith)).0, (met.1.0.within (x.costs.count - 1) (omega arith)).0)
   from_to source.Pack met =
       let few = met.0.at_most in

@@ -8,7 +8,7 @@ use native.Mathlib.Nat.{le_trans}
 use native.Mathlib.Omega.{arith}
 use lib.IntN.{pos}
 use Rattle.rules_number.proofs.ExactLaws.{eq_exactly}
-use Rattle.rules_path.specs.Paths.{Path, binds, named, withholdable}
+use Rattle.rules_path.specs.Paths.{Path, binds, withholdable}
 use Rattle.rules_path.specs.Verdicts.{verdict_of, bit, is_named}
 use Rattle.rules_path.proofs.BitLaws.{bit_zero}
 use Rattle.rules_path.proofs.PathVerdict.{named_can_withhold, withheld_of_named}

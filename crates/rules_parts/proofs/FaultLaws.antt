@@ -1,14 +1,12 @@
 -- The first faulty line: one law for each way in which readers are put together. Assumes nothing.
-use Prim.Native.Nat.{ℕ, zero, suc, ◌+◌}
+use Prim.Native.Nat.{ℕ, suc, ◌+◌}
 use mathlib.Core.Path.{◌≡◌, refl, sym, ap, subst, ◌∙◌}
 use mathlib.Core.List.{List, [], ◌∷◌, ◌++◌, append_assoc}
 use mathlib.Core.Logic.{◌⊎◌, inr}
 use native.Mathlib.Omega.{arith}
 use native.Mathlib.Nat.{add-zero}
-use lib.ListN.{length, take, get_or, length-append}
-use lib.IntN.{pos}
-use Rattle.rules_text.specs.declared.Number.{Number}
-use Rattle.rules_text.specs.Numbers.{Line, same, number}
+use lib.ListN.{length, get_or, length-append}
+use Rattle.rules_text.specs.Numbers.{Line}
 use Rattle.rules_text.specs.Tables.{Reader, Reading, found, faulty, next, ◌▷◌}
 use Rattle.rules_text.proofs.ReaderLaws.{Names}
 

@@ -1,20 +1,18 @@
 -- The line that is refused is the first faulty one: those before it can be completed to a part, and with it they can't. Assumes nothing.
-use Prim.Native.Nat.{ℕ, suc, ◌+◌}
+use Prim.Native.Nat.{ℕ, suc}
 use mathlib.Core.Path.{◌≡◌, refl, sym, ap, ◌∙◌}
 use mathlib.Core.List.{List, [], ◌∷◌, ◌++◌, append-nil}
 use mathlib.Core.Option.{some}
 use lib.ListN.{length}
 use lib.IntN.{pos}
 use native.Mathlib.Omega.{arith}
-use Rattle.rules_interval.specs.declared.Interval.{Interval}
-use Rattle.rules_opening.specs.declared.Opening.{Opening}
-use Rattle.rules_text.specs.Numbers.{Line, Row, bytes, number, magnitude, row}
-use Rattle.rules_text.specs.Tables.{Reader, found, faulty, due, headed, single, run, rows, counted, grouped, pairs, each}
+use Rattle.rules_text.specs.Numbers.{Line, bytes, number, magnitude}
+use Rattle.rules_text.specs.Tables.{Reader, faulty, due, headed, single, rows, counted, grouped, pairs, each}
 use Rattle.rules_parts.specs.Parts.{opening_of, read_opening, is_factor, place_of, factor_rows, parameter_by, parameter_of, interval_of, read_interval_by, read_interval}
 use Rattle.rules_text.specs.Printing.{line_text}
 use Rattle.rules_parts.specs.Faults.{First}
 use Rattle.rules_text.proofs.ReaderLaws.{single_back}
-use Rattle.rules_parts.proofs.FaultLaws.{Outer, Fault, Inner, found_outer, then_outer}
+use Rattle.rules_parts.proofs.FaultLaws.{Outer, Inner, found_outer, then_outer}
 use Rattle.rules_parts.proofs.TableFaults.{Any, Few, headed_outer, due_inner, run_rows, rows_inner, counted_inner, grouped_inner, each_inner}
 
 first_of : {A : Type 0} (r : Reader A) → Outer r Any → (n : ℕ) (ls : List Line) (line : ℕ) → r n ls ≡ faulty line → First r n ls line

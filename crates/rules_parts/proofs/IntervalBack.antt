@@ -9,14 +9,14 @@ use lib.ListN.{length}
 use lib.IntN.{ℤ, pos}
 use Rattle.rules_interval.specs.declared.Interval.{Interval}
 use Rattle.rules_text.specs.Numbers.{Line, Row, bytes, same, lines, number, magnitude, row}
-use Rattle.rules_text.specs.Tables.{Reader, found, due, headed, cell, single, counted, rows}
+use Rattle.rules_text.specs.Tables.{found, due, headed, cell, single, counted, rows}
 use Rattle.rules_text.specs.Offsets.{kept}
 use Rattle.rules_text.proofs.NameLaws.{is_line, same_eq}
 use Rattle.rules_parts.specs.Parts.{read_interval_by, read_interval, interval_of, factor_rows, parameter_by, parameter_of}
 use Rattle.rules_parts.proofs.IntervalStages.{by_fields, last, last_two, last_three}
 use Rattle.rules_text.specs.Printing.{line_text}
 use Rattle.rules_parts.specs.Texts.{GivenInterval, GivenOutput, GivenFactor, shadow_row, output_row, factor_row, parameter_line, parameter_is, interval_lines, interval_text, interval_is, array_of, IntervalSmall, IntervalFits}
-use Rattle.rules_text.specs.Spelled.{Every, no_more, and_all, Small, table_lines, counted_rows, together}
+use Rattle.rules_text.specs.Spelled.{Every, no_more, and_all, Small, table_lines, counted_rows}
 use Rattle.rules_text.proofs.ClosedLines.{lines_together, line_closed, every_map, every_append, counted_closed}
 use Rattle.rules_text.proofs.ReaderLaws.{Reads, Values, then_back, into_back, headed_back, due_back, single_back, counted_back, counted_length, counted_map}
 use Rattle.rules_parts.proofs.FactorBack.{factors_back, cells_back}

@@ -1,5 +1,5 @@
 -- What reading a part means, as texts: exactly the texts of specs/Texts are read, each as the values that it says. Assumes nothing.
-use Prim.Native.Nat.{ℕ, ◌+◌}
+use Prim.Native.Nat.{ℕ}
 use mathlib.Core.Path.{◌≡◌, refl, sym, ap, ◌∙◌}
 use mathlib.Core.List.{List, [], ◌∷◌, ◌++◌, append_assoc}
 use Rattle.rules_interval.specs.declared.Interval.{Interval}

@@ -1,5 +1,5 @@
 -- Whatever is read as an interval is the text of one, with nothing else in it. Assumes nothing.
-use Prim.Native.Nat.{ℕ, suc, ◌+◌, ◌*◌, ◌<◌, ◌≤◌}
+use Prim.Native.Nat.{ℕ, suc, ◌*◌, ◌<◌, ◌≤◌}
 use mathlib.Core.Path.{◌≡◌, refl, sym, ap, subst, ◌∙◌}
 use mathlib.Core.List.{List, [], ◌∷◌, ◌++◌, map}
 use mathlib.Core.Option.{Option, none, some}
@@ -24,7 +24,6 @@ use Rattle.rules_parts.specs.Texts.{GivenInterval, GivenOutput, GivenFactor, sha
 use Rattle.rules_text.specs.Spelled.{Every, no_more, and_all, Small, table_lines, counted_rows}
 use Rattle.rules_text.proofs.ReaderLaws.{Values, counted_length}
 use Rattle.rules_parts.proofs.IntervalBack.{parameter_back, got}
-use Rattle.rules_text.proofs.OnlySpelling.{Spelled}
 use Rattle.rules_parts.proofs.OnlyRows.{Suited, Run, goes, ran, Stage, stage, Due, Counts, due_only, single_only, rows_only, counted_only}
 use Rattle.rules_parts.proofs.OnlyOpening.{firsts_are, firsts_small, counted_as, ones, ones_are, glue}
 

@@ -1,5 +1,5 @@
 -- Whatever is read as an opening is the text of one, with nothing else in it. Assumes nothing.
-use Prim.Native.Nat.{ℕ, zero, suc, ◌+◌}
+use Prim.Native.Nat.{ℕ, zero, suc}
 use mathlib.Core.Path.{◌≡◌, refl, sym, ap, subst, ◌∙◌}
 use mathlib.Core.List.{List, [], ◌∷◌, ◌++◌, append_assoc, map}
 use native.Mathlib.Omega.{arith}
@@ -8,7 +8,7 @@ use lib.IntN.{ℤ, pos}
 use Rattle.rules_curve.specs.declared.RawStep.{RawStep}
 use Rattle.rules_cost.specs.declared.Point.{Point}
 use Rattle.rules_opening.specs.declared.Opening.{Opening}
-use Rattle.rules_text.specs.Numbers.{Line, Row, bytes, lines}
+use Rattle.rules_text.specs.Numbers.{Line, Row, bytes}
 use Rattle.rules_text.specs.Tables.{found, due, cell, single, counted, grouped, pairs, each}
 use Rattle.rules_parts.specs.Parts.{opening_of, read_opening}
 use Rattle.rules_text.specs.Printing.{line_text}

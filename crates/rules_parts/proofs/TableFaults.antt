@@ -5,7 +5,7 @@ use mathlib.Core.Path.{◌≡◌, refl, sym, ap, subst, ◌∙◌}
 use mathlib.Core.List.{List, [], ◌∷◌, ◌++◌, map}
 use mathlib.Core.Option.{Option, none, some}
 use mathlib.Core.Bool.{Bool, true, false, cond}
-use mathlib.Core.Logic.{◌⊎◌, inl, inr, ⊎_elim}
+use mathlib.Core.Logic.{inl, inr, ⊎_elim}
 use native.Mathlib.Omega.{arith}
 use native.Mathlib.Nat.{add-zero}
 use borrow.Author.Tests.{eqb-true}
@@ -14,7 +14,6 @@ use lib.Seq.{length-take-le, drop_at}
 use lib.IntN.{pos, negsuc}
 use Rattle.rules_number.specs.Order.{eq_z}
 use Rattle.rules_number.proofs.OverLaws.{never}
-use Rattle.rules_text.specs.declared.Number.{Number}
 use Rattle.rules_text.specs.declared.Number.TheVariants.{Not}
 use Rattle.rules_text.specs.Numbers.{Line, Row, bytes, same, number, magnitude, row}
 use Rattle.rules_text.specs.Tables.{Reader, Reading, found, faulty, next, ◌▷◌, taken, due, headed, cell, if_suits, has_id, and_more, run, rows, counting, counted, each, grouped, pairs}
@@ -22,7 +21,7 @@ use Rattle.rules_text.proofs.StageLaws.{run_few}
 use Rattle.rules_text.specs.Printing.{line_text}
 use Rattle.rules_text.specs.Spelled.{Every, no_more, and_all, Small, counted_rows}
 use Rattle.rules_text.proofs.ReaderLaws.{Names, Reads, Values, headed_back, due_back, run_names, each_back}
-use Rattle.rules_text.proofs.OnlySpelling.{Spelled, row_only}
+use Rattle.rules_text.proofs.OnlySpelling.{row_only}
 use Rattle.rules_parts.proofs.FaultLaws.{Alike, Locally, Local, Fault, Inner, OuterFault, Outer, then_local, found_outer}
 
 no : {X : Type 0} → ◌≡◌ {A = ℕ} 0 1 → X

@@ -1,11 +1,10 @@
 -- Paper 01, Text, the other way round: the text of an opening and of an interval, table by table as the page shows them, and what is to be read from it.
-use Rattle.std.specs.Prelude.{ℕ, zero, ◌/◌, ◌%◌, ◌^◌, ◌<◌, ◌≤◌, ◌≡◌, List, [], ◌∷◌, ◌++◌, map, cond, ◌&&◌, ◌⊎◌, eqb, length, take, ℤ, pos}
+use Rattle.std.specs.Prelude.{ℕ, ◌/◌, ◌%◌, ◌^◌, ◌<◌, ◌≤◌, ◌≡◌, List, [], ◌∷◌, ◌++◌, map, cond, ◌&&◌, ◌⊎◌, eqb, length, take, ℤ, pos}
 use Rattle.std.proofs.Math.Option.{Option, none, some}
 use Rattle.rules_number.specs.Over.{listed, padded}
 use Rattle.rules_curve.specs.declared.RawStep.{RawStep}
 use Rattle.rules_curve.specs.declared.RawCurve.{RawCurve}
 use Rattle.rules_cost.specs.declared.Point.{Point}
-use Rattle.rules_cost.specs.declared.Costs.{Costs}
 use Rattle.rules_interval.specs.declared.Interval.{Interval}
 use Rattle.rules_opening.specs.declared.Source.TheVariants as source
 use Rattle.rules_opening.specs.declared.Resource.{Resource}

@@ -1,8 +1,10 @@
 // The path verdict of a constraint (paper 01, Path verdict; 39.7.2.2). No code.
+#![tactic(auto)]
+
 use rules_interval::Interval;
 
 // Who owns what: the portfolio of each resource, and 1 for each portfolio that is a net seller.
-#[derive(Drop)]
+#[derive(Clone, Copy)]
 pub struct Market {
     pub resources: usize,
     pub portfolio: [u64; Interval::MAX_RESOURCES],
@@ -10,7 +12,7 @@ pub struct Market {
 }
 
 // What is found of a constraint.
-#[derive(Drop)]
+#[derive(Clone, Copy)]
 pub enum Finding {
     Competitive,
     NonCompetitive,
@@ -18,7 +20,7 @@ pub enum Finding {
 }
 
 // The verdict on a constraint: bit p of `named` stands for portfolio p, and `withheld` has what each seller named withholds.
-#[derive(Drop)]
+#[derive(Clone, Copy)]
 pub struct Verdict {
     pub finding: Finding,
     pub demand: u64,

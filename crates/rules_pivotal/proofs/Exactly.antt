@@ -9,7 +9,7 @@ use Rattle.rules_number.proofs.ExactLaws.{iff_then}
 use Rattle.rules_number.proofs.OverLaws.{never, last_or_before}
 use Rattle.rules_number.proofs.TestLaws.{above_exactly}
 use Rattle.rules_curve.specs.Demands.{Demand, ◌asks◌, First}
-use Rattle.rules_curve.specs.Refusals.{unless, ◌then◌}
+use Rattle.rules_curve.specs.Refusals.{unless}
 use Rattle.rules_curve.proofs.CheckLaws.{then_both, unless_holds}
 use Rattle.rules_curve.proofs.FirstLaws.{exactly, first_more}
 use Rattle.rules_interval.specs.Conditions.{interval_demands}

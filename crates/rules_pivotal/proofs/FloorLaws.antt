@@ -17,7 +17,7 @@ use Rattle.rules_number.proofs.TestLaws.{above_exactly}
 use Rattle.rules_interval.specs.Intervals.{shadow_at}
 use Rattle.rules_interval.specs.declared.Interval.{Interval}
 use Rattle.rules_path.specs.Judgements.{path_in}
-use Rattle.rules_path.specs.Paths.{Path, at, binds, demand, supply, offers, Withheld, NetSeller, Possible, top, total, mask}
+use Rattle.rules_path.specs.Paths.{Path, binds, demand, supply, offers, Withheld, NetSeller, Possible, top, total, mask}
 use Rattle.rules_path.specs.Verdicts.{bit}
 use Rattle.rules_path.specs.declared.Market.{Market}
 use Rattle.rules_path.proofs.MaskLaws.{mask_on, mask_ones}

@@ -6,7 +6,7 @@ use mathlib.Core.Path.{◌≡◌, refl}
 use Prim.Native.Nat.{ℕ, zero, suc, ◌+◌, ◌*◌, ◌≤◌, ◌<◌}
 use native.Mathlib.Nat.{mul-le-mul_right, le_refl}
 use native.Mathlib.Omega.{arith}
-use lib.IntN.{ℤ, pos, ◌*ℤ◌}
+use lib.IntN.{pos, ◌*ℤ◌}
 use lib.Signed.{≤ℤ_refl}
 use Rattle.rules_number.proofs.Kit.{P, N, var, lit, mul, le_from, le_by, le_true, le_false}
 use Rattle.rules_number.proofs.OverLaws.{le_or_lt, last_or_before}

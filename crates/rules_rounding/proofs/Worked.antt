@@ -1,7 +1,7 @@
 -- Unrounded prices worked out by hand, and by computation on the definitions.
 use mathlib.Core.List.{[], ◌∷◌}
 use mathlib.Core.Path.{◌≡◌, refl}
-use lib.IntN.{ℤ, pos, neg_ℤ, ◌*ℤ◌}
+use lib.IntN.{pos, neg_ℤ, ◌*ℤ◌}
 use Rattle.rules_number.specs.Over.{highest_to}
 use Rattle.rules_cost.specs.Costs.{mark, first_to, split_at, count_of_steps, segment_at, end_at, edge_at, width_at, width, unlimited, incremental_rate, fuel, greenhouse, fee_part, step_cost, with_adder, rate_at, largest_rate, step_price, raised_price}
 use Rattle.rules_cost.specs.declared.Costs.{Costs}

@@ -1,4 +1,6 @@
 // An hour in numbers: the state that a caller keeps in a lent slice of numbers, and what calls on it read, write and answer. No code.
+#![tactic(auto)]
+
 use rules_curve::{Curve, Outcome};
 use rules_interval::Interval;
 use rules_path::Market;
@@ -35,7 +37,7 @@ pub const CAUSE_WIDTH: usize = 4;
 pub const CAUSE_ROOM: usize = Interval::MAX_RESOURCES * CAUSE_WIDTH;
 
 // What a call on lent cells answers: an outcome, or that there are fewer cells than the hour has, which leaves everything lent as it was.
-#[derive(Drop)]
+#[derive(Clone, Copy)]
 pub enum Called {
     Done(Outcome),
     TooShort,

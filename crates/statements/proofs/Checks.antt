@@ -1,12 +1,11 @@
 -- The number of each refusal, and what a check hands back: "A refusal returns its number alone". Assumes nothing.
-use mathlib.Core.List.{List, map}
-use mathlib.Core.Path.{◌≡◌, refl, sym, ap, ◌∙◌}
-use Prim.Native.Nat.{ℕ, zero, suc, ◌<◌}
-use native.Mathlib.Omega.{arith}
-use lib.IntN.{ℤ, pos}
-use lib.ListN.{length, take, replicate}
-use Rattle.rules_curve.specs.Refusals.{number_of, outcome_number}
-use Rattle.rules_curve.specs.Curves.{blank_curve, curve_of, unless_refused, bid_refusal, default_refusal, checked_bid, checked_default}
+use mathlib.Core.List.{map}
+use mathlib.Core.Path.{◌≡◌, refl, ap, ◌∙◌}
+use Prim.Native.Nat.{ℕ, ◌<◌}
+use lib.IntN.{pos}
+use lib.ListN.{take, replicate}
+use Rattle.rules_curve.specs.Refusals.{outcome_number}
+use Rattle.rules_curve.specs.Curves.{curve_of, unless_refused, bid_refusal, default_refusal, checked_bid, checked_default}
 use Rattle.rules_curve.specs.declared.Refusal.{Refusal}
 use Rattle.rules_curve.specs.declared.Refusal.TheVariants as refusal
 use Rattle.rules_curve.specs.declared.Outcome.{Outcome}

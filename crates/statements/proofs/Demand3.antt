@@ -314,6 +314,7 @@ module _ (o : Opening) (v : Interval) where
 
 each_one : (o : Opening) (r q : ℕ) (calls : List Interval) (caps : List ℤ) → OneEach o r q calls caps → EachOne o r q calls caps
 each_one o r q [] [] none = refl
+each_one o r q [] (y ∷ l) e = elim e [ ]
 each_one o r q (v ∷ calls) (y ∷ caps) (one c h) = inl (y, caps, refl, (cap_is o v r q y).0 c, each_one o r q calls caps h)
 each_one o r q (v ∷ calls) caps (no_other n h) = inr (no_cap_is o v r n, each_one o r q calls caps h)
 
@@ -338,11 +339,11 @@ counted_is zero a = refl
 counted_is (suc x) a = refl
 
 calls_say : (n a : ℕ) → n ≤ 64 → (calls : List Interval) (l : List ℕ) → Answered n a calls l → CallsSay n a calls l
-calls_say n a few [] l h = h
-calls_say n a few (v ∷ calls) [] h = h
-calls_say n a few (v ∷ calls) (x ∷ l) h =
+calls_say n a small [] l h = h
+calls_say n a small (v ∷ calls) [] h = h
+calls_say n a small (v ∷ calls) (x ∷ l) h =
     let e = exactly (call_demands a n v) x h.1 in
-    (and_so h.0 (accepted_says a n x v few e), call_says a n x v few e, calls_say n (counting x a) few calls l (subst (λ (b : ℕ). Answered n b calls l) (counted_is x a) h.2))
+    (and_so h.0 (accepted_says a n x v small e), call_says a n x v small e, calls_say n (counting x a) small calls l (subst (λ (b : ℕ). Answered n b calls l) (counted_is x a) h.2))
 
 -- the caps of a curve whose accepted intervals are those of A
 module _ (o : Opening) (r : ℕ) {before : ℕ → ℤ} {accepted : List Interval} (A : List Interval) (c : Mitigated) (same : accepted ≡ A) (K : Capped o r before accepted c) where

@@ -3,7 +3,7 @@ use mathlib.Core.List.Memᴰ
 use mathlib.Core.List.{List, [], ◌∷◌, ◌++◌}
 use mathlib.Core.Logic.{◌↔◌, ◌⊎◌, inl, inr, ⊎_elim}
 use mathlib.Core.Path.{◌≡◌, refl, sym, ap, ◌∙◌}
-use Prim.Native.Nat.{ℕ, zero, suc, ◌≤◌, ◌<◌}
+use Prim.Native.Nat.{ℕ, suc, ◌≤◌, ◌<◌}
 use lib.IntN.{ℤ}
 use lib.ListN.{length}
 use lib.Signed.{◌≤ℤ◌}
@@ -15,10 +15,9 @@ use Rattle.rules_mitigation.specs.declared.Mitigated.{Mitigated}
 use Rattle.rules_opening.specs.Openings.{opening_refusal}
 use Rattle.rules_opening.specs.declared.Opening.{Opening}
 use Rattle.rules_hour.specs.Hours.{curve_in, hour_refusal}
-use Rattle.rules_hour.specs.Demand3.{InBid}
-use Rattle.rules_pass.specs.Calls.{Request, interval, pass, accepted_intervals}
+use Rattle.rules_pass.specs.Calls.{Request, interval, pass}
 use Rattle.rules_hour_bid.specs.HourBids.{hour_bid_refusal, hour_bid_in, hour_bid_of}
-use Rattle.rules_hour_bid.specs.Meaning.{joining, prefixes_from, accepted_prefixes, IsHourBid}
+use Rattle.rules_hour_bid.specs.Meaning.{joining, prefixes_from}
 use Rattle.rules_hour_bid.proofs.HourBidIs.{twenty_exactly, zero_exactly, hour_bid, hour_bid_only, fourth_curve, hour_bid_twenty, refused_bid, given_bid}
 use Rattle.statements.proofs.Curves.{Rises, Differ, rises, differ}
 use Rattle.statements.proofs.Demand3.{bid}

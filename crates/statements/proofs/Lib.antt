@@ -34,3 +34,5 @@ pub mod Inputs
 pub mod Answers
 pub mod Returned
 pub mod ReturnedNumbers
+pub mod FromReturned
+pub mod FromReturnedNumbers

@@ -1,5 +1,5 @@
 -- The functions of the static library for bids, default curves, books of gas prices, classroom bids and texts, in full: what they read, what they answer, and what is in each lent slice afterwards. Assumes nothing.
-use mathlib.Core.List.{List, [], ◌∷◌, map}
+use mathlib.Core.List.{List, ◌∷◌, map}
 use mathlib.Core.Logic.{◌↔◌, ◌⊎◌, inl, inr, ⊎_elim}
 use mathlib.Core.Path.{◌≡◌, refl, sym, ap, ◌∙◌}
 use Prim.Native.Nat.{ℕ, zero, suc, ◌+◌, ◌*◌, ◌≤◌, ◌<◌}
@@ -25,12 +25,12 @@ use Rattle.rules_gas.proofs.CostAfterBook.{list_21_exactly}
 use Rattle.rules_contract.specs.ContractUnits.{contract_refusal, joined_curve}
 use Rattle.rules_contract.proofs.Joins.{joined_room}
 use Rattle.rules_classroom.specs.Classroom.{classroom_bid}
-use Rattle.rules_run.specs.Run.{Ended, run_room, output, end_of, ran_within, ran_to}
+use Rattle.rules_run.specs.Run.{run_room, output, end_of, ran_within, ran_to}
 use Rattle.rules_library.specs.Answers.{ran_number, told_answer, told_page, told_after}
 use Rattle.rules_library.specs.Gas.{list_by, run_count, gas_answer, gas_edges, gas_prices}
 use Rattle.rules_library.specs.Slices.{raw_bid, costs_in, raw_step_at, raw_point_at, edges_of, prices_of, put_answer, if_written, edges_with, prices_with, default_answer, edges_after, prices_after}
 use Rattle.rules_library.proofs.DefaultAnswers.{put_answer_lem}
-use Rattle.rules_library.proofs.Meaning.{all_steps, zero_accepted, edges_past, prices_past, ran_counts, ran_too_small, Told, Untold, tells, too_few_told, too_small_page}
+use Rattle.rules_library.proofs.Meaning.{all_steps, zero_accepted, edges_past, prices_past, ran_counts, ran_too_small, tells, too_few_told, too_small_page}
 use Rattle.rules_library.proofs.GasLaws.{by_number, default_by_number, empty_is_0, priced_steps}
 use Rattle.rules_state.specs.Layout.{state_room}
 use Rattle.rules_state.proofs.StateCells.{room_is}

@@ -7,13 +7,12 @@ use Rattle.rules_number.specs.Over.{padded}
 use Rattle.rules_curve.specs.Curves.{blank_curve, curve_of}
 use Rattle.rules_cost.specs.Costs.{cost_curve}
 use Rattle.rules_mitigation.specs.declared.FloorPrice.TheVariants.{Uncut}
-use Rattle.rules_opening.specs.Resources.{blank_row, row_of}
 use Rattle.rules_opening.specs.Openings.{resource_at, opening_refusal}
 use Rattle.rules_opening.specs.declared.Row.{Row}
 use Rattle.rules_opening.specs.declared.Opening.{Opening}
 use Rattle.rules_opening.specs.declared.Source.TheVariants as source
 use Rattle.rules_opening.proofs.FreshHour.{from_costs_lem, from_pack, from_bid, own_row, no_row, own_portfolio, own_mark, no_mark, same_resources}
-use Rattle.rules_hour.specs.Hours.{Hour, fresh_standing, uncut}
+use Rattle.rules_hour.specs.Hours.{Hour, fresh_standing}
 use Rattle.rules_hour.specs.Opened.{hour_unless, fresh_hour, opened_hour}
 use Rattle.rules_hour.proofs.AcceptedOpening.{none_cut, refused_opening}
 use Rattle.statements.proofs.Plain.{Whole}

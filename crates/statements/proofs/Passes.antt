@@ -33,7 +33,7 @@ use Rattle.statements.proofs.Told.{and_so, passed}
 use Rattle.statements.proofs.Curves.{Rises, Differ, rises, differ}
 use Rattle.statements.proofs.RefusedCalls.{CallSays, Resources, Constraints, Limits, Outputs, met_is, number_says}
 use Rattle.statements.proofs.Demand3.{bid, IsComponent, component_is, CapsSay, caps_listed, caps_say, components_say, OwnerSays, owner_says, Accepted, accepted_are}
-use Rattle.statements.proofs.Hours.{hour_at, JudgedSays, verdict_says, call_hands_back}
+use Rattle.statements.proofs.Hours.{JudgedSays, verdict_says, call_hands_back}
 
 -- ---- the calls
 -- the numbers that they return, in order: "Each call gets the hour as the call before it left it"

@@ -1,7 +1,7 @@
 -- What the program prints, for every text: each page has the one curve that demand 3 gives for that opening and the list of intervals so far. Assumes nothing.
 use mathlib.Core.List.{List, [], ◌∷◌, ◌++◌, map, append-nil, Memᴰ}
 use mathlib.Core.Logic.{◌⊎◌, inl, inr, ⊎_elim, ◌↔◌}
-use mathlib.Core.Path.{◌≡◌, refl, ap, ◌∙◌}
+use mathlib.Core.Path.{◌≡◌, ap, ◌∙◌}
 use Prim.Native.Nat.{ℕ, zero, suc, ◌+◌, ◌≤◌, ◌<◌}
 use native.Mathlib.Omega.{arith}
 use lib.IntN.{ℤ, pos, nat_abs}
@@ -25,7 +25,7 @@ use Rattle.rules_hour.specs.Demand3.{InBid, caps, Demand3}
 use Rattle.rules_hour.proofs.AcceptedOpening.{few}
 use Rattle.rules_text.specs.Numbers.{Line, Row, lines}
 use Rattle.rules_text.specs.Tables.{found}
-use Rattle.rules_text.specs.Printing.{table_text, refusal_text}
+use Rattle.rules_text.specs.Printing.{refusal_text}
 use Rattle.rules_text.specs.Spelled.{together}
 use Rattle.rules_parts.specs.Parts.{read_opening, read_interval}
 use Rattle.rules_page.proofs.StepBound.{StepFew, steps_few}

@@ -82,7 +82,7 @@ pub interval_tables : (i : GivenInterval) → (line : Line) → (i.parameter ≡
     ++ (table (Ascii "resource constraint factor\n") (map (λ f. pos f.resource ∷ pos f.constraint ∷ f.factor ∷ []) i.factors)
     ++ (Ascii "parameter\n" ∷ line ∷ [])))
 unfolding interval_lines counted_rows Counted
-interval_tables i line missing there = rw (is i.parameter missing there, ← lines_are) refl
+interval_tables i line missing there = rw (is i.parameter missing there) (simp lines_are refl)
   where
     is : (p : Option ℤ) → (p ≡ none → line ≡ Ascii "-\n") → ((z : ℤ) → p ≡ some z → line ≡ LineOf (z ∷ [])) → line ≡ parameter_line p
     is none m t = m refl

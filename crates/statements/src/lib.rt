@@ -1,1 +1,2 @@
 // The headline theorems, each with its type in full. No code.
+#![tactic(auto)]

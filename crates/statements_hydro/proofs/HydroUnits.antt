@@ -22,7 +22,8 @@ use Rattle.rules_hydro.proofs.Units.{hydro_unit, same_causes}
 use Rattle.statements.proofs.Told.{and_so}
 use Rattle.statements.proofs.Demand3.{resource, bid, default, IsComponent, component_is, OwnerSays}
 use Rattle.statements.proofs.Passes.{FiveMinutes}
-use Rattle.statements.proofs.Returned.{Seen, Made, Last, taken, passed, owner_returned, five_minute_returned}
+use Rattle.statements.proofs.Returned.{Seen, Made, Last}
+use Rattle.statements.proofs.FromReturned.{taken, passed, owner_returned, five_minute_returned}
 
 -- what resource r has after the intervals I, and the passes P since the last of them: its hourly and its five-minute curve
 pub record HydroSays (o : Opening) (r : ℕ) (x : Hydro) (I P : List Interval) (hourly fives : Mitigated) : Type 0 where
