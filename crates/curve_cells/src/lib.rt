@@ -1,5 +1,7 @@
 // Curves put into two lent slices: the number of steps, the start and the ends; and the prices. What is past a slice's end is put nowhere. The contracts cite the
 // definitions of rules_library and rules_state.
+#![tactic(auto)]
+
 ghost use Rattle.std.specs.Prelude.{◌≡◌, ◌∷◌, map, ◌≤◌, set, take};
 ghost use Rattle.std.proofs.lemmas.List.Edits.{sets};
 ghost use Rattle.rules_mitigation.specs.Mitigation.{most_mitigated_steps};

@@ -13,10 +13,8 @@ use Rattle.rules_curve.specs.Curves.{blank_step}
 use Rattle.rules_curve.specs.declared.Step.{Step}
 use Rattle.rules_mitigation.specs.Mitigation.{used_steps}
 use Rattle.rules_hour.specs.Hours.{curve_in}
-use Rattle.rules_hour.specs.declared.Floor.{Floor}
 use Rattle.rules_text.specs.Numbers.{Row}
 use Rattle.rules_text.specs.Printing.{line_text, group_text}
-use Rattle.rules_text.specs.declared.Printed.{Printed}
 use Rattle.rules_text.specs.declared.Printed.TheVariants.{To, Full}
 use Rattle.rules_text.proofs.ListLaws.{at_cons, sets_read}
 use Rattle.rules_page.specs.Pages.{step_row, curve_rows}

@@ -1,5 +1,5 @@
 -- The lines of a curve and their widths, put where both have room.
-use Rattle.std.specs.Prelude.{ℕ, ◌+◌, Bool, ◌&&◌, cond, List, leb, length}
+use Rattle.std.specs.Prelude.{ℕ, ◌+◌, Bool, ◌&&◌, cond, List, length}
 use Rattle.std.proofs.lemmas.List.Edits.{sets}
 use Rattle.rules_mitigation.specs.Mitigation.{most_mitigated_steps}
 use Rattle.rules_text.specs.declared.Printed.{Printed}

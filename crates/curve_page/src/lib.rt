@@ -1,4 +1,6 @@
 // The curves of a page (paper 01, Text), from the hour that a lent slice of numbers stands for. The contracts cite the definitions of rules_page and rules_state.
+#![tactic(auto)]
+
 ghost use Rattle.std.specs.Prelude.{◌≡◌, true, ◌∷◌, [], map, ◌+◌, ◌<◌, ◌≤◌, pos, length};
 ghost use Rattle.std.proofs.lemmas.List.Edits.{sets};
 ghost use Rattle.rules_number.specs.Over.{listed};

@@ -16,7 +16,7 @@ use Rattle.rules_text.specs.Tables.{cell, if_suits, and_more, run}
 use Rattle.rules_text.specs.Offsets.{bytes_of}
 use Rattle.rules_text.proofs.StageLaws.{run_few}
 use Rattle.rules_text.proofs.UsedLaws.{used_lines, used_then, used_count, bytes_past}
-use Rattle.rules_parts.specs.Parts.{is_declared, place, place_of, is_factor, factor_rows, with_factors}
+use Rattle.rules_parts.specs.Parts.{is_declared, place, place_of, is_factor, factor_rows, with_factor, with_factors}
 use Rattle.rules_parts.proofs.DeclaredLaws.{declared_below}
 use Rattle.text_tables.specs.declared.Table.{Table}
 use Rattle.factor_table.specs.Factors.{factors_of, Read}
@@ -26,7 +26,7 @@ use Rattle.factor_table.proofs.FactorLaws.{declared_at, comes_before, suits_of, 
 stored_then : (a : List ℤ) (xs ys : List Row) → with_factors a (xs ++ ys) ≡ with_factors (with_factors a xs) ys
 unfolding with_factors
 stored_then a [] ys = refl
-stored_then a (x ∷ xs) ys = stored_then _ xs ys
+stored_then a (x ∷ xs) ys = stored_then (with_factor a x) xs ys
 
 -- two tests that differ in the last part alone
 same_last : (a b p q : Bool) → (a ≡ true → b ≡ true → p ≡ q) → (a && (b && p)) ≡ (a && (b && q))

@@ -1,4 +1,6 @@
 // The table of an interval's shift factors, at an offset of a lent text (paper 01, Text). The contracts cite specs/Factors and the definitions of rules_text.
+#![tactic(auto)]
+
 ghost use Rattle.std.specs.Prelude.{◌≡◌, ℕ, ◌+◌, ◌*◌, ◌≤◌, ◌<◌, length, drop, set};
 ghost use Rattle.std.proofs.Math.Option.{none};
 ghost use Rattle.rules_text.specs.Numbers.{lines, row};
@@ -16,7 +18,7 @@ use text_triples::ids_triple_at;
 const ONE_DIGIT: usize = 10;
 
 // A factor's constraint and value, with the offset of the next line, where a line is one.
-#[derive(Drop)]
+#[derive(Clone, Copy)]
 struct Factor {
     ok: bool,
     constraint: usize,

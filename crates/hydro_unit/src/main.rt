@@ -1,35 +1,33 @@
 // Case T's hour with a hydro unit in place of the unit with costs: works out the unit's default energy bid, opens the hour with it, takes the interval, and prints
 // the unit's bid curve before and after it; and what the pack answers for a heat rate of 0.
+#![tactic(auto)]
+
 use engine::Hour;
-use libc::STDOUT_FILENO;
 use rules_cost::{Costs, Point};
 use rules_curve::{Curve, RawCurve, RawStep};
 use rules_hydro::{Hydro, HydroOutcome};
 use rules_interval::Interval;
 use rules_mitigation::Mitigated;
 use rules_opening::{Opening, Resource, Source};
-
-fn print(label: &[u8], n: u64) {
-    io::write_all(STDOUT_FILENO, label);
-    io::print_decimal(STDOUT_FILENO, n);
-}
+use std::io;
 
 // A line for the pack's answer: the refusal's number, or 0.
-fn print_outcome(outcome: HydroOutcome) {
-    print(b"hydro ", hydro::outcome_number(outcome));
-    io::write_all(STDOUT_FILENO, b"\n");
+fn print_outcome(rt: &impl Print, outcome: HydroOutcome) -> io::Result<()> {
+    println!(rt; "hydro {}", hydro::outcome_number(outcome))
 }
 
 // A line for a curve: how many steps it has, then end and price of the first two.
-fn print_curve(c: Mitigated) {
+fn print_curve(rt: &impl Print, c: Mitigated) -> io::Result<()> {
     let first = c.steps[0];
     let second = c.steps[1];
-    print(b"curve ", c.count as u64);
-    print(b" ", first.end);
-    print(b" ", number::whole(first.price));
-    print(b" ", second.end);
-    print(b" ", number::whole(second.price));
-    io::write_all(STDOUT_FILENO, b"\n");
+    println!(rt;
+        "curve {} {} {} {} {}",
+        c.count,
+        first.end,
+        number::whole(first.price),
+        second.end,
+        number::whole(second.price)
+    )
 }
 
 // One hub and a horizon of one month: peak, balance of month, and the monthly prices, of which the first is read.
@@ -128,17 +126,17 @@ fn interval() -> Interval {
     }
 }
 
-fn main() {
+fn main(rt: HostRuntime) -> io::Result<()> {
     let refused = hydro::default_curve(hydro_unit(0));
     let outcome = refused.outcome;
-    print_outcome(outcome);
+    print_outcome(&rt, outcome)?;
     let default = hydro::default_curve(hydro_unit(10_000));
     let outcome = default.outcome;
-    print_outcome(outcome);
+    print_outcome(&rt, outcome)?;
     let opened = Hour::open(opening(default.pack));
     let hour = opened.hour;
-    print_curve(hour.curve(0));
+    print_curve(&rt, hour.curve(0))?;
     let answer = hour.interval(interval());
     let next = answer.hour;
-    print_curve(next.curve(0));
+    print_curve(&rt, next.curve(0))
 }

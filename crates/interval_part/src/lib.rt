@@ -1,5 +1,7 @@
 // The part of an interval in a text (paper 01, Text), read at an offset of a lent text and taken in the hour of lent cells.
 // The contracts cite specs/Taken and the definitions of rules_parts, rules_hour and rules_state.
+#![tactic(auto)]
+
 ghost use Rattle.std.specs.Prelude.{◌≡◌, ◌+◌, ◌-◌, ◌*◌, ◌≤◌, min, length, drop, replicate, pos, []};
 ghost use Rattle.interval.specs.Over.{interval_over};
 ghost use Rattle.rules_text.specs.Numbers.{lines};
@@ -42,7 +44,7 @@ const HALF_FACTORS: usize = 1024;
 const ALL_OUTPUTS: usize = 256;
 
 // What taking an interval's part answers: the number of its last line, the offset of the next and how many constraints it has; or the number of the refusal and of its line.
-#[derive(Drop)]
+#[derive(Clone, Copy)]
 pub struct PartTaken {
     pub number: u64,
     pub line: usize,
@@ -60,7 +62,7 @@ const MAX_LINES: usize = 65_536;
 pub const MISSING_PARAMETER: i64 = 0;
 
 // The value of a line that is due, with its line's number and the offset of the next, or the number of the faulty line.
-#[derive(Drop)]
+#[derive(Clone, Copy)]
 struct Value {
     fault: usize,
     value: i64,
@@ -69,7 +71,7 @@ struct Value {
 }
 
 // What an interval's part says beside its tables, the number of its last line and the offset of the next, or the number of the faulty line.
-#[derive(Drop)]
+#[derive(Clone, Copy)]
 struct Part {
     fault: usize,
     constraints: usize,

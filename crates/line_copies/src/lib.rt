@@ -1,5 +1,7 @@
 // Lines of a page put once more at a later place, each with another first byte: what an unchanged curve prints in the next interval. The contracts cite the
 // definitions of specs/Lines.
+#![tactic(auto)]
+
 ghost use Rattle.std.specs.Prelude.{◌≡◌, ◌+◌, ◌≤◌, length, take, drop};
 ghost use Rattle.std.proofs.lemmas.List.Edits.{sets};
 ghost use Rattle.line_copies.specs.Lines.{headed, with_lines, lines_to};

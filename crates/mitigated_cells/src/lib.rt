@@ -1,5 +1,7 @@
 // The present curve of a resource (paper 01, Interval and hour; 31.2.3, 34.1.5), from the hour that a lent slice of numbers stands for, put into lent arrays of
 // numbers: the end of each step, and its price. The contracts cite the definitions of rules_mitigation and rules_state.
+#![tactic(auto)]
+
 ghost use Rattle.std.specs.Prelude.{◌≡◌, true, false, map, ◌+◌, ◌≤◌, ◌<◌, min as least, length, set};
 ghost use Rattle.std.proofs.lemmas.List.Edits.{sets};
 ghost use Rattle.rules_number.specs.Order.{nat_of, eq_z};

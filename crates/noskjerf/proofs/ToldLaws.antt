@@ -10,7 +10,6 @@ use lib.IntN.{ℤ, pos, negsuc}
 use lib.ListN.{length}
 use lib.Seq.{sets}
 use Rattle.rules_run.specs.Run.{Ended, run_room, ran_within, ran_to}
-use Rattle.rules_run.specs.declared.Ran.{Ran}
 use Rattle.rules_run.specs.declared.Ran.TheVariants.{Printed, TooSmall}
 use Rattle.rules_library.specs.Answers.{told_room, told_answer, told_page, told_after}
 

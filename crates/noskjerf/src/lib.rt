@@ -1,4 +1,6 @@
 // A text run for programs in other languages: functions on slices under C names. The contracts cite the definitions of rules_library.
+#![tactic(auto)]
+
 ghost use Rattle.std.specs.Prelude.{◌≡◌};
 ghost use Rattle.rules_run.specs.Run.{output, end_of, ran_within, ran_to, run_room};
 ghost use Rattle.rules_library.specs.Answers.{ran_number, told_answer, told_page, told_after};

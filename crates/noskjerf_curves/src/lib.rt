@@ -1,6 +1,8 @@
 // The curves of an hour in numbers for programs in other languages, under C names: the state is only read. Each answers 0 and puts a curve's number of steps, its
 // start and its ends into `edges` and its prices into `prices`; or answers a number, or -1 where a slice or the state has too few numbers, and leaves both as
 // they were. The contracts cite the definitions of rules_state.
+#![tactic(auto)]
+
 ghost use Rattle.std.specs.Prelude.{◌≡◌, ◌&&◌, ◌+◌, ◌≤◌, leb};
 ghost use Rattle.rules_curve.specs.Refusals.{unless};
 ghost use Rattle.rules_mitigation.specs.Mitigation.{most_mitigated_steps};

@@ -1,5 +1,7 @@
 // The sixty-day tally of a constraint for programs in other languages, under C names: the caller keeps it in a slice of 122 numbers. The contracts cite the definitions of
 // rules_designation.
+#![tactic(auto)]
+
 ghost use Rattle.std.specs.Prelude.{◌≡◌, ◌+◌, ◌≤◌, length};
 ghost use Rattle.std.proofs.lemmas.List.Edits.{sets};
 ghost use Rattle.rules_designation.specs.Calls.{tally_room, masks_in, tally_in, tally_cells, day_of, day_answer, cells_after, designation_answer, hours_after, mark_answer, marks_after};

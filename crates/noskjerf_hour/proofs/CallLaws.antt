@@ -10,7 +10,6 @@ use Rattle.rules_interval.specs.declared.Interval.{Interval}
 use Rattle.rules_interval.proofs.IntervalLaws.{in_limits}
 use Rattle.rules_path.specs.Judgements.{verdicts_of, verdicts_unless}
 use Rattle.rules_path.specs.Verdicts.{not_binding}
-use Rattle.rules_path.specs.declared.Verdict.{Verdict}
 use Rattle.rules_hour.specs.Hours.{call_verdicts}
 use Rattle.rules_pass.specs.Passes.{turn_verdicts}
 use Rattle.rules_state.specs.States.{market_in}

@@ -1,5 +1,7 @@
 // An hour in numbers for programs in other languages, under C names: the caller keeps its state in a lent slice, and every content of it has a meaning. The contracts
 // cite the definitions of rules_state.
+#![tactic(auto)]
+
 ghost use Rattle.std.specs.Prelude.{◌≡◌};
 ghost use Rattle.rules_state.specs.Layout.{state_room};
 ghost use Rattle.rules_state.specs.Openings.{opening_in};

@@ -1,5 +1,7 @@
 // The hydro pack for programs in other languages, in an archive of its own: a function on numbers and slices under a C name. The contract cites the definitions of
 // rules_hydro and rules_library.
+#![tactic(auto)]
+
 ghost use Rattle.std.specs.Prelude.{◌≡◌};
 ghost use Rattle.rules_curve.specs.Curves.{curve_of};
 ghost use Rattle.rules_library.specs.Slices.{put_answer, edges_with, prices_with};

@@ -1,5 +1,7 @@
 // A bid judged, a default curve from costs, one joined of two, books of gas prices, and classroom bids, for programs in other languages:
 // functions on numbers and slices under C names. The contracts cite the definitions of rules_library.
+#![tactic(auto)]
+
 ghost use Rattle.std.specs.Prelude.{◌≡◌};
 ghost use Rattle.rules_curve.specs.Curves.{bid_refusal, default_refusal, checked_default};
 ghost use Rattle.rules_classroom.specs.Classroom.{classroom_bid};

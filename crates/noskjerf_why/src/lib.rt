@@ -1,5 +1,7 @@
 // Why an interval cuts the resources of an hour or not, and how many sellers a verdict names, for programs in other languages, under C names: state and verdicts are only
 // read. The contracts cite the definitions of rules_state.
+#![tactic(auto)]
+
 ghost use Rattle.std.specs.Prelude.{◌≡◌};
 ghost use Rattle.rules_state.specs.Intervals.{interval_in};
 ghost use Rattle.rules_state.specs.Calls.{why_answer, causes_after, sellers_answer};

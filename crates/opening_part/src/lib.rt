@@ -1,5 +1,7 @@
 // The part of a text that opens an hour (paper 01, Text), read into blocks of numbers and opened into the cells of an hour. The contracts cite specs/Blocks,
 // specs/Parts and the definitions of rules_parts and rules_state.
+#![tactic(auto)]
+
 mod tables;
 
 ghost use Rattle.std.specs.Prelude.{◌≡◌, ◌+◌, ◌-◌, ◌≤◌, min, length, drop};
@@ -22,7 +24,7 @@ use text_tables::{owners_at, sellers_at};
 
 // What opening the part of a text answers: 17 and the number of the faulty line; the opening's refusal and the number of the part's last line; or 0, that
 // number, the offset of the next line and the number of resources. Where the cells are too few for these, `TOO_SHORT`, the number of the last line and how many they are.
-#[derive(Drop)]
+#[derive(Clone, Copy)]
 pub struct PartOpened {
     pub number: u64,
     pub line: usize,

@@ -13,21 +13,21 @@ use text_rows::eight_at;
 use text_triples::id_triple_at;
 
 // How many lines a resource has, and the offset of the line after them.
-#[derive(Drop)]
+#[derive(Clone, Copy)]
 struct Group {
     count: usize,
     next: usize,
 }
 
 // The number of a table's last line, and the offset of the line after it.
-#[derive(Drop)]
+#[derive(Clone, Copy)]
 pub(crate) struct Groups {
     pub(crate) line: usize,
     pub(crate) next: usize,
 }
 
 // The same, or the number of the faulty line.
-#[derive(Drop)]
+#[derive(Clone, Copy)]
 pub(crate) struct Charges {
     pub(crate) fault: usize,
     pub(crate) line: usize,

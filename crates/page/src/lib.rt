@@ -1,4 +1,6 @@
 // The lines of a refusal (paper 01, Text), put into a lent buffer at an offset. The contracts cite the definitions of rules_page.
+#![tactic(auto)]
+
 ghost use Rattle.std.specs.Prelude.{◌≡◌, pos};
 ghost use Rattle.rules_text.specs.Printing.{refusal_text};
 ghost use Rattle.rules_page.specs.Pages.{printable as printableOf};

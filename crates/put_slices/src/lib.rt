@@ -1,4 +1,6 @@
 // A checked curve put into lent slices of numbers. The contracts cite the definitions of rules_library.
+#![tactic(auto)]
+
 ghost use Rattle.std.specs.Prelude.{◌≡◌};
 ghost use Rattle.rules_curve.specs.Refusals.{outcome_number};
 ghost use Rattle.rules_library.specs.Slices.{put_answer, edges_with, prices_with};

@@ -1,5 +1,7 @@
 // A reader of a text: the lent text and the offset of the next line. All of a text is read through it, a part at a time. Its methods are thin, over
 // `opening_part::part_opened` and `interval_part::part_taken`, which take the text and the offset, and hand the reader back at the next line.
+#![tactic(auto)]
+
 ghost use Rattle.std.specs.Prelude.{◌≡◌, [], ◌+◌, min, drop};
 ghost use Rattle.rules_text.specs.Numbers.{lines};
 ghost use Rattle.rules_text.specs.Offsets.{bytes_of};
@@ -14,14 +16,14 @@ use opening_part::{PartOpened, part_opened};
 use rules_state::VERDICT_ROOM;
 
 // The lent text and the offset of the next line.
-#[derive(Drop)]
+#[derive(Clone, Copy)]
 pub struct Reader<'a> {
     pub text: &'a [u8],
     pub at: usize,
 }
 
 // What the part that opens an hour answers, and the reader at the line after it; at the text's first where the part is faulty or refused.
-#[derive(Drop)]
+#[derive(Clone, Copy)]
 pub struct AfterOpening<'a> {
     pub reader: Reader<'a>,
     pub number: u64,
@@ -30,7 +32,7 @@ pub struct AfterOpening<'a> {
 }
 
 // The same of an interval's part.
-#[derive(Drop)]
+#[derive(Clone, Copy)]
 pub struct AfterInterval<'a> {
     pub reader: Reader<'a>,
     pub number: u64,

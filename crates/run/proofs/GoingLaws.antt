@@ -9,7 +9,7 @@ use lib.Seq.{sets}
 use Rattle.rules_interval.specs.declared.Interval.{Interval}
 use Rattle.rules_hour.specs.Hours.{Hour, call_refusal, hour_refusal, hour_after}
 use Rattle.rules_text.specs.Numbers.{Line, lines}
-use Rattle.rules_text.specs.Tables.{Reading, faulty, found}
+use Rattle.rules_text.specs.Tables.{faulty, found}
 use Rattle.rules_text.specs.Printing.{refusal_text}
 use Rattle.rules_text.proofs.LineLaws.{lines_some}
 use Rattle.rules_parts.specs.Parts.{read_interval}

@@ -1,5 +1,5 @@
 -- What a part of a text did, by the answer of the function that read it. Assumes nothing.
-use Prim.Native.Nat.{ℕ, zero, suc, ◌+◌, ◌-◌, ◌≤◌, ◌<◌}
+use Prim.Native.Nat.{ℕ, zero, suc, ◌+◌, ◌-◌, ◌≤◌}
 use mathlib.Core.Bool.{Bool, true, false}
 use mathlib.Core.Path.{◌≡◌, refl, sym, ap, ◌∙◌}
 use mathlib.Core.List.{List, []}
@@ -21,12 +21,11 @@ use Rattle.interval_part.specs.declared.PartTaken.{PartTaken}
 use Rattle.rules_opening.specs.declared.Opening.{Opening}
 use Rattle.rules_opening.specs.Openings.{opening_refusal}
 use Rattle.rules_parts.specs.Parts.{read_opening}
-use Rattle.rules_state.specs.Takes.{opened_cells}
 use Rattle.rules_state.specs.Layout.{hour_room, rows_from}
 use Rattle.rules_state.specs.Calls.{holds}
 use Rattle.rules_state.specs.OpenedInto.{opened_into}
 use Rattle.rules_state.proofs.OpenedLaws.{opened_into_lem}
-use Rattle.opening_part.specs.Parts.{Opened, faulty_at, part_by, part_in, part_answer, part_state, lines_then}
+use Rattle.opening_part.specs.Parts.{part_by, part_in, part_answer, part_state, lines_then}
 use Rattle.opening_part.specs.declared.PartOpened.{PartOpened}
 use Rattle.run.specs.Took.{Took, faulted, declined, taken, OpenedBy, misread, unopened, opened}
 

@@ -1,4 +1,6 @@
 // The whole run: a text in, what is printed out (paper 01, Text). The contracts cite the definitions of rules_run.
+#![tactic(auto)]
+
 ghost use Rattle.std.specs.Prelude.{◌≡◌, true, map, ◌+◌, ◌-◌, ◌*◌, ◌≤◌, ◌<◌, length, drop, replicate, set, get_or};
 ghost use Rattle.std.proofs.lemmas.List.Edits.{sets};
 ghost use Rattle.rules_text.specs.Numbers.{lines};
@@ -28,7 +30,7 @@ pub const ROOM: usize = 655_424;
 pub const MAX_TEXT: usize = 65_536;
 
 // Where what was printed ends, and the number and line of the refusal that ends it; 0 and 0 where nothing is refused.
-#[derive(Drop)]
+#[derive(Clone, Copy)]
 struct Ending {
     at: usize,
     number: u64,

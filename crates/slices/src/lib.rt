@@ -1,4 +1,6 @@
 // Curves, costs and a market's list of gas prices, read from lent slices of numbers. The contracts cite the definitions of rules_library.
+#![tactic(auto)]
+
 ghost use Rattle.std.specs.Prelude.{◌≡◌, ◌<◌};
 ghost use Rattle.rules_cost.specs.Costs.{most_points};
 ghost use Rattle.rules_library.specs.Gas.{list_by};

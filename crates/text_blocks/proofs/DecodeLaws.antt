@@ -17,7 +17,6 @@ use Rattle.rules_cost.specs.Costs.{most_points}
 use Rattle.rules_cost.specs.declared.Point.{Point}
 use Rattle.rules_cost.specs.declared.Costs.{Costs}
 use Rattle.rules_opening.specs.declared.Source.{Source}
-use Rattle.rules_opening.specs.declared.Source.TheVariants as source
 use Rattle.rules_opening.specs.declared.Resource.{Resource}
 use Rattle.rules_text.specs.Numbers.{Row}
 use Rattle.rules_text.specs.Tables.{cell}

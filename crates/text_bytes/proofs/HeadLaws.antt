@@ -1,5 +1,5 @@
 -- Laws of the id at the head of a line, as head_at answers it. Assumes nothing.
-use Prim.Native.Nat.{ℕ, suc, ◌+◌, ◌/◌, ◌%◌, ◌≤◌, ◌<◌}
+use Prim.Native.Nat.{ℕ, suc, ◌+◌, ◌≤◌, ◌<◌}
 use mathlib.Core.Path.{◌≡◌, refl, sym, ap, ap₂, ◌∙◌}
 use mathlib.Core.List.{List}
 use mathlib.Core.Option.{none}
@@ -11,7 +11,6 @@ use lib.ListN.{length}
 use lib.IntN.{ℤ, pos}
 use Rattle.rules_number.specs.Order.{eq_z}
 use Rattle.rules_number.proofs.OrderLaws.{eq_z_true, eq_z_same}
-use Rattle.rules_number.proofs.OverLaws.{never}
 use Rattle.rules_text.specs.declared.Number.{Number}
 use Rattle.rules_text.specs.declared.Number.TheVariants.{Is, Not}
 use Rattle.rules_text.specs.Offsets.{number_at, closed_by, as_row, row_at, three_of, id_row_at}

@@ -7,7 +7,7 @@ use mathlib.Core.Bool.{Bool, true, false, cond, ◌||◌}
 use native.Mathlib.Omega.{arith}
 use borrow.Author.Tests.{eq-eqb, ne_eqb, eqb-true, le-leb}
 use lib.Dec.{eqb}
-use lib.ListN.{length, drop, take, get_or, set, replicate}
+use lib.ListN.{length, drop, take, get_or}
 use lib.Seq.{get_or-take, get_or-drop, drop-drop}
 use lib.IntN.{ℤ, pos, neg_ℤ, ◌-ℤ◌, +ℤ_idl}
 use mir.Syntax.{w64}
@@ -20,15 +20,14 @@ use Rattle.rules_number.proofs.OrderLaws.{eq_z_true, eq_z_same}
 use Rattle.rules_text.specs.declared.Magnitude.TheVariants.{Spells}
 use Rattle.rules_text.specs.declared.Number.{Number}
 use Rattle.rules_text.specs.declared.Number.TheVariants.{Is, Not}
-use Rattle.rules_text.specs.declared.Three.{Three}
 use Rattle.rules_text.specs.Numbers.{Row, is_digit, digit_count, value, formed, magnitude, plain, negated, number, put, row}
 use Rattle.rules_text.specs.Tables.{if_suits, has_id}
-use Rattle.rules_text.specs.Offsets.{shifted, number_at, closed_by, as_row, row_at, three_of, id_row_at}
+use Rattle.rules_text.specs.Offsets.{shifted, number_at, closed_by, as_row, row_at, id_row_at}
 use Rattle.rules_text.specs.Printing.{decimal}
 use Rattle.rules_text.proofs.ListLaws.{at_cons, head_at}
 use Rattle.rules_text.proofs.NumberLaws.{Reads, reads_start, reads_stop, reads_more, take_few, mag_is, number_plain, number_minus}
 use Rattle.rules_text.proofs.LineLaws.{line}
-use Rattle.rules_text.proofs.RowLaws.{left, Rowing, rowing_start, rowing_missing, rowing_more, rowing_done, row_none, row_some, row_in, in_range_lem, stepped, missing}
+use Rattle.rules_text.proofs.RowLaws.{left, row_in, in_range_lem, stepped, missing}
 use Rattle.rules_text.proofs.PrintLaws.{digits_one, digits_more}
 use Rattle.rules_text.proofs.OnlySpelling.{Begins, number_iff}
 use Rattle.text_bytes.specs.Shorts.{Short, Plain}

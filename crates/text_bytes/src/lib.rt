@@ -1,4 +1,6 @@
 // The bytes of a line beside its numbers: what closes a value, a sign, the id at the line's head (paper 01, Text). The contracts cite specs/Heads and the definitions of rules_text.
+#![tactic(auto)]
+
 ghost use Rattle.std.specs.Prelude.{◌≡◌, cond, ℕ, ◌+◌, ◌*◌, ◌/◌, ◌%◌, ◌<◌, ◌≤◌, eqb, length, pos};
 ghost use Rattle.rules_number.specs.Order.{eq_z};
 ghost use Rattle.rules_text.specs.declared.Number.TheVariants.{Is};
@@ -7,7 +9,7 @@ ghost use Rattle.rules_text.specs.Offsets.{number_at, closed_by};
 ghost use Rattle.text_bytes.specs.Heads.{head_on};
 
 // Whether the id that is due stands at the head of a line: the offset past it and a space, or another id, or unread where few bytes are left or the id is above 99.
-#[derive(Drop)]
+#[derive(Clone, Copy)]
 pub enum Head {
     Unread,
     Other,
@@ -15,7 +17,7 @@ pub enum Head {
 }
 
 // What digits spell, and the offset after the byte that closes them; 0 where they are none.
-#[derive(Drop)]
+#[derive(Clone, Copy)]
 pub struct Closed {
     pub value: u64,
     pub next: usize,

@@ -1,4 +1,6 @@
 // Lines of values at an offset of a lent text (paper 01, Text). The contracts cite the definitions of rules_text.
+#![tactic(auto)]
+
 ghost use Rattle.std.specs.Prelude.{◌≡◌};
 ghost use Rattle.std.proofs.Math.Option.{none};
 ghost use Rattle.rules_text.specs.Offsets.{as_row, row_at};

@@ -1,5 +1,7 @@
 // Names lines at an offset of a lent text (paper 01, Text; request 2.4: "Compare eight bytes as one number where eight remain, single bytes after that").
 // The contracts cite the definitions of rules_text.
+#![tactic(auto)]
+
 ghost use Rattle.std.specs.Prelude.{◌≡◌, ◌+◌, ◌≤◌, ◌<◌, length};
 ghost use Rattle.rules_text.specs.Offsets.{names_at};
 ghost use Rattle.text_names.specs.Pairs.{pair_at, four_at, word_at};

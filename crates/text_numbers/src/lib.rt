@@ -1,4 +1,6 @@
 // Numbers at an offset of a lent text (paper 01, Text). The contracts cite the definitions of rules_text.
+#![tactic(auto)]
+
 ghost use Rattle.std.specs.Prelude.{◌≡◌, ◌+◌, ◌^◌, ◌<◌, ◌≤◌, ◌&&◌, length, take, drop, pos, neg_ℤ, ◌==◌, slice_index};
 ghost use Rattle.rules_text.specs.Numbers.{digit_count, value, formed, magnitude};
 ghost use Rattle.rules_text.specs.Offsets.{number_at, closed_by};
@@ -8,7 +10,7 @@ use std::num::wrapping_sub_u64;
 use text_bytes::{sign_width, wide};
 
 // What digits spell, and how many they are.
-#[derive(Drop)]
+#[derive(Clone, Copy)]
 struct Digits {
     value: u64,
     count: usize,

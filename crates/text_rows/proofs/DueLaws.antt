@@ -9,7 +9,7 @@ use Rattle.rules_number.proofs.OrderLaws.{eq_z_true}
 use Rattle.rules_text.specs.declared.Number.{Number}
 use Rattle.rules_text.specs.declared.Number.TheVariants.{Is, Not}
 use Rattle.rules_text.specs.Numbers.{closing}
-use Rattle.rules_text.specs.Offsets.{number_at, closed_by, kept, as_row, row_at, three_of, id_row_at}
+use Rattle.rules_text.specs.Offsets.{number_at, closed_by, kept, as_row, id_row_at}
 use Rattle.text_rows.specs.declared.One.{One}
 use Rattle.text_rows.specs.declared.Two.{Two}
 use Rattle.text_rows.specs.declared.Four.{Four}

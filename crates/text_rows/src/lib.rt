@@ -1,4 +1,6 @@
 // Lines of an id that is due and one, two, four or seven values, and of a value alone: at once where these are short. The contracts cite specs/Rows and the definitions of rules_text.
+#![tactic(auto)]
+
 ghost use Rattle.std.specs.Prelude.{◌≡◌, ℕ, ◌+◌, ◌^◌, ◌<◌, ◌≤◌, [], ◌∷◌, length, take, pos, neg_ℤ, if◌then◌else◌, ◌≢◌, nat_eq};
 ghost use Rattle.std.proofs.Math.Option.{none};
 ghost use Rattle.rules_text.specs.Offsets.{as_row, row_at, id_row_at};
@@ -11,14 +13,14 @@ use text_bytes::{Closed, Head, closing, head_at, is_id, no_number, sign_width, w
 use text_numbers::closed_at;
 
 // A line's one value, after its id or alone, and the offset of the next line; 0 where there is no such line.
-#[derive(Drop)]
+#[derive(Clone, Copy)]
 pub struct One {
     pub a: i64,
     pub next: usize,
 }
 
 // The same of two values.
-#[derive(Drop)]
+#[derive(Clone, Copy)]
 pub struct Two {
     pub a: i64,
     pub b: i64,
@@ -26,7 +28,7 @@ pub struct Two {
 }
 
 // The same of four values.
-#[derive(Drop)]
+#[derive(Clone, Copy)]
 pub struct Four {
     pub a: i64,
     pub b: i64,

@@ -1,5 +1,7 @@
 // Tables of lines that count up by one, at an offset of a lent text (paper 01, Text): portfolios, resources, constraints and outputs.
 // The contracts cite the definitions of rules_text.
+#![tactic(auto)]
+
 ghost use Rattle.std.specs.Prelude.{◌≡◌, ◌+◌, length, drop};
 ghost use mathlib.Core.List.{[], ◌∷◌, map, flat_map};
 ghost use Rattle.std.proofs.lemmas.List.Edits.{sets};
@@ -11,7 +13,7 @@ use cells::put;
 use text_rows::{four_at, mark_at, one_at, two_at};
 
 // How many lines a table has, and the offset of the line after it.
-#[derive(Drop)]
+#[derive(Clone, Copy)]
 pub struct Table {
     pub count: usize,
     pub next: usize,

@@ -1,4 +1,6 @@
 // Lines of an id that is due and two more values: at once where these are short. The contracts cite specs/Short and the definitions of rules_text.
+#![tactic(auto)]
+
 ghost use Rattle.std.specs.Prelude.{◌≡◌, ◌+◌, ◌^◌, ◌<◌, ◌≤◌, true, length, pos, ◌≢◌};
 ghost use Rattle.std.proofs.Math.Option.{none};
 ghost use Rattle.rules_text.specs.declared.Number.TheVariants.{Is};

@@ -1,5 +1,7 @@
 // The verdicts of an accepted interval and the sellers that they name (paper 01, Text), printed from lent cells into a lent buffer at an offset. The contracts
 // cite the definitions of rules_page and rules_state.
+#![tactic(auto)]
+
 ghost use Rattle.std.specs.Prelude.{◌≡◌, cond, [], ◌∷◌, ℕ, ◌+◌, ◌*◌, ◌%◌, ◌<◌, ◌≤◌, ltb, pos, length, take};
 ghost use Rattle.rules_number.specs.Order.{nat_of};
 ghost use Rattle.rules_path.specs.Verdicts.{finding_number, bit};

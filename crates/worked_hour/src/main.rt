@@ -1,58 +1,55 @@
 // Runs hours through the public calls and prints each answer: packs for no resource, for all and for one; a refused opening; of the third hour, a
 // refused call in the middle, four accepted calls and a fifth, and the bids for the hour before the fourth and after it; and an hour with five-minute passes. The resources are those of paper 01's Case T and P9.
+#![tactic(auto)]
+
 use engine::{Answer, Hour};
-use libc::STDOUT_FILENO;
 use rules_cost::{Costs, Point};
 use rules_curve::{Curve, Outcome, RawCurve, RawStep};
 use rules_interval::Interval;
 use rules_mitigation::Mitigated;
 use rules_opening::{Opening, Resource, Source};
 use rules_path::Verdict;
-
-fn print(label: &[u8], n: u64) {
-    io::write_all(STDOUT_FILENO, label);
-    io::print_decimal(STDOUT_FILENO, n);
-}
+use std::io;
 
 // A line for the answer: the refusal's number, or 0.
-fn print_outcome(label: &[u8], outcome: Outcome) {
-    print(label, curve::outcome_number(outcome));
-    io::write_all(STDOUT_FILENO, b"\n");
+fn print_outcome(rt: &impl Print, label: &str, outcome: Outcome) -> io::Result<()> {
+    println!(rt; "{label}{}", curve::outcome_number(outcome))
 }
 
 // A line for a verdict: finding, demand, left and how many sellers are named.
-fn print_verdict(v: Verdict) {
+fn print_verdict(rt: &impl Print, v: Verdict) -> io::Result<()> {
     let finding = v.finding;
-    print(b"verdict ", verdict::finding_number(finding));
-    print(b" ", v.demand);
-    print(b" ", v.left);
-    print(b" sellers ", verdict::sellers_named(v.named) as u64);
-    io::write_all(STDOUT_FILENO, b"\n");
+    println!(rt;
+        "verdict {} {} {} sellers {}",
+        verdict::finding_number(finding),
+        v.demand,
+        v.left,
+        verdict::sellers_named(v.named)
+    )
 }
 
 // A line for a curve: its label, resource, then end and price of each step.
-fn print_curve(label: &[u8], r: u64, c: Mitigated) {
-    print(label, r);
+fn print_curve(rt: &impl Print, label: &str, r: u64, c: Mitigated) -> io::Result<()> {
+    print!(rt; "{label}{r}")?;
     let mut i: usize = 0;
     while i < Mitigated::MAX_STEPS {
         if i < c.count {
             let step = c.steps[i];
-            print(b" ", step.end);
-            print(b" ", number::whole(step.price));
+            print!(rt; " {} {}", step.end, number::whole(step.price))?;
         }
         i += 1;
     }
-    io::write_all(STDOUT_FILENO, b"\n");
+    println!(rt; "")
 }
 
-fn print_curves(hour: Hour) {
-    print_curve(b"curve ", 0, hour.curve(0));
-    print_curve(b"curve ", 1, hour.curve(1));
+fn print_curves(rt: &impl Print, hour: Hour) -> io::Result<()> {
+    print_curve(rt, "curve ", 0, hour.curve(0))?;
+    print_curve(rt, "curve ", 1, hour.curve(1))
 }
 
-fn print_five_minute(hour: Hour) {
-    print_curve(b"five-minute ", 0, hour.five_minute(0));
-    print_curve(b"five-minute ", 1, hour.five_minute(1));
+fn print_five_minute(rt: &impl Print, hour: Hour) -> io::Result<()> {
+    print_curve(rt, "five-minute ", 0, hour.five_minute(0))?;
+    print_curve(rt, "five-minute ", 1, hour.five_minute(1))
 }
 
 fn step(end: i64, price: i64) -> RawStep {
@@ -197,91 +194,92 @@ fn interval(shadow: i64, lmp: i64, parameter: i64) -> Interval {
 }
 
 // The bids for the hour, and their answer.
-fn print_bids(hour: Hour) {
+fn print_bids(rt: &impl Print, hour: Hour) -> io::Result<()> {
     let first = hour.hour_bid(0);
     let second = hour.hour_bid(1);
     let outcome = first.outcome;
-    print_outcome(b"hour bid ", outcome);
-    print_curve(b"bid ", 0, first.curve);
-    print_curve(b"bid ", 1, second.curve);
+    print_outcome(rt, "hour bid ", outcome)?;
+    print_curve(rt, "bid ", 0, first.curve)?;
+    print_curve(rt, "bid ", 1, second.curve)
 }
 
 // An answer printed; the hour that it hands back.
-fn answered(label: &[u8], answer: Answer) -> Hour {
+fn answered(rt: &impl Print, label: &str, answer: Answer) -> io::Result<Hour> {
     let verdicts = answer.verdicts;
     let next = answer.hour;
     let outcome = answer.outcome;
     let verdict = verdicts[0];
-    print_outcome(label, outcome);
-    print_verdict(verdict);
-    print_curves(next);
-    next
+    print_outcome(rt, label, outcome)?;
+    print_verdict(rt, verdict)?;
+    print_curves(rt, next)?;
+    Ok(next)
 }
 
 // An interval.
-fn call(hour: Hour, v: Interval) -> Hour {
-    answered(b"interval ", hour.interval(v))
+fn call(rt: &impl Print, hour: Hour, v: Interval) -> io::Result<Hour> {
+    answered(rt, "interval ", hour.interval(v))
 }
 
 // An interval, and a pass, with the five-minute curves printed too.
-fn quarter(hour: Hour, v: Interval) -> Hour {
-    let next = call(hour, v);
-    print_five_minute(next);
-    next
+fn quarter(rt: &impl Print, hour: Hour, v: Interval) -> io::Result<Hour> {
+    let next = call(rt, hour, v)?;
+    print_five_minute(rt, next)?;
+    Ok(next)
 }
 
-fn pass(hour: Hour, v: Interval) -> Hour {
-    let next = answered(b"pass ", hour.pass(v));
-    print_five_minute(next);
-    next
+fn pass(rt: &impl Print, hour: Hour, v: Interval) -> io::Result<Hour> {
+    let next = answered(rt, "pass ", hour.pass(v))?;
+    print_five_minute(rt, next)?;
+    Ok(next)
 }
 
 // The opened hour, its answer printed.
-fn open(o: Opening) -> Hour {
+fn open(rt: &impl Print, o: Opening) -> io::Result<Hour> {
     let opened = Hour::open(o);
     let hour = opened.hour;
     let outcome = opened.outcome;
-    print_outcome(b"opening ", outcome);
-    print_curves(hour);
-    hour
+    print_outcome(rt, "opening ", outcome)?;
+    print_curves(rt, hour)?;
+    Ok(hour)
 }
 
 // An hour with passes: one before any interval; three and a fourth after the first, a refused one among them; a quarter hour without a cut; and one in a full hour.
-fn passes() {
-    let hour = open(opening(case_t_packed(0), p9(1)));
-    let hour = pass(hour, interval(500_000, 600_000, 100));
-    let hour = quarter(hour, interval(500_000, 749_900, 100));
-    let hour = pass(hour, interval(500_000, 650_000, 100));
-    let hour = pass(hour, interval(500_000, 600_000, 101));
-    let hour = pass(hour, interval(500_000, 749_900, 100));
-    let hour = pass(hour, interval(500_000, 600_000, 100));
-    let hour = pass(hour, interval(500_000, 600_000, 101));
-    let hour = quarter(hour, interval(0, 600_000, 100));
-    let hour = call(hour, interval(0, 600_000, 100));
-    let hour = call(hour, interval(0, 600_000, 100));
-    let hour = pass(hour, interval(500_000, 650_000, 100));
-    print_bids(quarter(hour, interval(500_000, 600_000, 100)));
+fn passes(rt: &impl Print) -> io::Result<()> {
+    let hour = open(rt, opening(case_t_packed(0), p9(1)))?;
+    let hour = pass(rt, hour, interval(500_000, 600_000, 100))?;
+    let hour = quarter(rt, hour, interval(500_000, 749_900, 100))?;
+    let hour = pass(rt, hour, interval(500_000, 650_000, 100))?;
+    let hour = pass(rt, hour, interval(500_000, 600_000, 101))?;
+    let hour = pass(rt, hour, interval(500_000, 749_900, 100))?;
+    let hour = pass(rt, hour, interval(500_000, 600_000, 100))?;
+    let hour = pass(rt, hour, interval(500_000, 600_000, 101))?;
+    let hour = quarter(rt, hour, interval(0, 600_000, 100))?;
+    let hour = call(rt, hour, interval(0, 600_000, 100))?;
+    let hour = call(rt, hour, interval(0, 600_000, 100))?;
+    let hour = pass(rt, hour, interval(500_000, 650_000, 100))?;
+    let hour = quarter(rt, hour, interval(500_000, 600_000, 100))?;
+    print_bids(rt, hour)
 }
 
-fn main() {
-    io::write_all(STDOUT_FILENO, b"no pack\n");
-    let none = open(opening(case_t(0), case_t(1)));
-    call(none, interval(500_000, 600_000, 100));
-    io::write_all(STDOUT_FILENO, b"packs for all\n");
-    let all = open(opening(case_t_packed(0), p9(1)));
-    call(all, interval(500_000, 749_900, 100));
-    io::write_all(STDOUT_FILENO, b"unknown portfolio\n");
-    open(opening(case_t(0), p9(2)));
-    io::write_all(STDOUT_FILENO, b"a pack for one\n");
-    let hour = open(opening(case_t(0), p9(1)));
-    let hour = call(hour, interval(500_000, 749_900, 100));
-    let hour = call(hour, interval(500_000, 600_000, 101));
-    let hour = call(hour, interval(500_000, 600_000, 100));
-    let hour = call(hour, interval(500_000, 749_900, 100));
-    print_bids(hour);
-    let hour = call(hour, interval(0, 600_000, 100));
-    let hour = call(hour, interval(500_000, 600_000, 100));
-    print_bids(hour);
-    io::write_all(STDOUT_FILENO, b"passes\n");
-    passes();
+fn main(rt: HostRuntime) -> io::Result<()> {
+    println!(rt; "no pack")?;
+    let none = open(&rt, opening(case_t(0), case_t(1)))?;
+    call(&rt, none, interval(500_000, 600_000, 100))?;
+    println!(rt; "packs for all")?;
+    let all = open(&rt, opening(case_t_packed(0), p9(1)))?;
+    call(&rt, all, interval(500_000, 749_900, 100))?;
+    println!(rt; "unknown portfolio")?;
+    open(&rt, opening(case_t(0), p9(2)))?;
+    println!(rt; "a pack for one")?;
+    let hour = open(&rt, opening(case_t(0), p9(1)))?;
+    let hour = call(&rt, hour, interval(500_000, 749_900, 100))?;
+    let hour = call(&rt, hour, interval(500_000, 600_000, 101))?;
+    let hour = call(&rt, hour, interval(500_000, 600_000, 100))?;
+    let hour = call(&rt, hour, interval(500_000, 749_900, 100))?;
+    print_bids(&rt, hour)?;
+    let hour = call(&rt, hour, interval(0, 600_000, 100))?;
+    let hour = call(&rt, hour, interval(500_000, 600_000, 100))?;
+    print_bids(&rt, hour)?;
+    println!(rt; "passes")?;
+    passes(&rt)
 }

@@ -1,0 +1,19 @@
+-- The loop of `opening_part::tables::charges_into`.
+use Rattle.std.proofs.Common.{ℕ, ◌+◌, ◌-◌, List, ℤ, length, drop}
+use Rattle.rules_text.specs.Numbers.{lines}
+use Rattle.rules_text.specs.Tables.{Reading, found, next, each}
+use Rattle.rules_text.proofs.UsedLaws.{Used}
+use Rattle.text_blocks.specs.Blocks.{charge_cells, blocks_put}
+use Rattle.text_blocks.proofs.BlockLaws.{Pricing}
+use Rattle.opening_part.proofs.tables.charges_into.Given as goal
+
+abbrev pub whole : List ℕ → ℕ → ℕ → ℕ → List ℤ → ℕ → Reading (List ℤ)
+whole s at m n cells from = next (each 8 m 0 n (lines (drop at s))) (λ xs. found (blocks_put charge_cells from 0 cells xs))
+
+abbrev pub invariant-loop-r : goal.invariant-loop-r
+invariant-loop-r l =
+    Pricing l.from l.m l.r l.line l.cells (drop l.next l.s) (whole l.s l.at l.m l.n l.initial.cells l.from) (l.n + length (lines (drop l.at l.s))) (length l.initial.cells)
+    × Used l.s l.n l.at l.line l.next
+
+abbrev pub decreases-loop-r : goal.decreases-loop-r
+decreases-loop-r l = l.m - l.r
