@@ -1,5 +1,7 @@
 // Many numbers copied at once: a lent array filled from a slice, in which a number past the end is 0, and a slice put into another, in which a number past the end
 // is put nowhere. The contracts cite the definitions of rules_library and rules_state.
+#![tactic(auto)]
+
 ghost use Rattle.std.specs.Prelude.{◌≡◌, ◌+◌, ◌-◌, ◌*◌, ◌≤◌, min as least, length};
 ghost use Rattle.std.proofs.lemmas.List.Edits.{sets};
 ghost use Rattle.rules_number.specs.Over.{listed};

@@ -1,5 +1,7 @@
 // Numbers read from lent slices, and put into them. A number past the end is read as 0 and is put nowhere. The contracts cite the definitions of rules_library
 // and rules_state.
+#![tactic(auto)]
+
 ghost use Rattle.std.specs.Prelude.{◌≡◌, set};
 ghost use Rattle.rules_number.specs.Order.{nat_of};
 ghost use Rattle.rules_library.specs.Slices.{cell_at};

@@ -1,4 +1,6 @@
 // Every bid of the drills, in the order of the request (paper 02, 2.12). The contracts cite the definitions of rules_classroom.
+#![tactic(auto)]
+
 ghost use Rattle.std.specs.Prelude.{◌≡◌};
 ghost use Rattle.rules_classroom.specs.Classroom.{classroom_bids, classroom_bid};
 ghost use Rattle.classroom.specs.Places.{step_at_place, bid_by};

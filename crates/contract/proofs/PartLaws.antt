@@ -8,6 +8,7 @@ use lib.IntN.{ℤ}
 use lib.ListN.{length, get_or}
 use Rattle.rules_number.specs.Order.{eq_z}
 use Rattle.rules_number.specs.Over.{listed, padded}
+use Rattle.rules_number.proofs.HighestLaws.{highest_from}
 use Rattle.rules_number.proofs.OrderLaws.{eq_z_same}
 use Rattle.rules_curve.specs.Conditions.{no_step, step_at, edge, Counted}
 use Rattle.rules_curve.specs.Curves.{most_steps, lowest_default, highest_default, default_refusal}
@@ -20,7 +21,7 @@ use Rattle.rules_curve.proofs.CheckLaws.{checks_good}
 use Rattle.rules_curve.proofs.Exactly.{count_exactly}
 use Rattle.rules_curve.proofs.FirstLaws.{then_positive}
 use Rattle.rules_curve.proofs.RefusalLaws.{refused_number}
-use Rattle.rules_contract.specs.ContractUnits.{joined_steps, raised_step, raised, joined_raw, lowest, meets, few_together, contract_refusal}
+use Rattle.rules_contract.specs.ContractUnits.{joined_steps, step_price, raised_step, raised, joined_raw, lowest, meets, few_together, contract_refusal}
 use Rattle.rules_contract.proofs.Exactly.{none_lowest}
 use Rattle.rules_contract.proofs.JoinLaws.{joined_length, joined_count, second_at}
 
@@ -41,6 +42,13 @@ module _ (a b : RawCurve) (room_a : a.count ≤ length a.steps) (room_b : b.coun
   pub joined_is : record { start = a.start; count = a.count + b.count; steps = (joined_raw a b).steps } ≡ joined_raw a b
   unfolding joined_raw
   joined_is = ap (λ (n : ℕ). record { start = a.start; count = n; steps = (joined_raw a b).steps }) (sym (joined_count a b room_a room_b))
+
+-- the prices of both, and the largest of the first of them and those before i
+abbrev pub prices : RawCurve → RawCurve → ℕ → ℤ
+prices a b = step_price (joined_steps a b)
+
+abbrev pub largest_to : RawCurve → RawCurve → ℕ → ℤ
+largest_to a b i = highest_from (prices a b 0) (prices a b) i
 
 -- ---- the lower number
 pub lowest_second : (m n : ℕ) → (m ≡ 0 → ⊥) → n ≡ 0 → m ≡ lowest m n

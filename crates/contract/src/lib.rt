@@ -1,5 +1,7 @@
 // Two default curves joined into one for a reliability contract unit (paper 02, 2.9; 39.7.1.6; refusals 23 and 24). The contracts cite the definitions of
 // rules_contract.
+#![tactic(auto)]
+
 ghost use Rattle.std.specs.Prelude.{◌↔◌, ◌≡◌, ℕ, ◌+◌, ◌≤◌, ◌<◌, get_or};
 ghost use Rattle.rules_curve.specs.Conditions.{no_step, edge};
 ghost use Rattle.rules_curve.specs.Curves.{no_pack, default_refusal};

@@ -12,7 +12,7 @@ use mathlib.Core.Logic.{⊎_elim}
 use lib.Signed.{lt_z}
 use Rattle.rules_number.specs.Over.{listed}
 use Rattle.rules_number.proofs.OverLaws.{last_or_before, listed_at, listed_same}
-use Rattle.rules_cost.specs.Costs.{most_points, blank_point, point_at, mw_at, heat_at, segment_count, mark, is_split, first_to, split_at}
+use Rattle.rules_cost.specs.Costs.{most_points, blank_point, point_at, mw_at, heat_at, mark, is_split, first_to, split_at}
 use Rattle.rules_cost.specs.declared.Point.{Point}
 use Rattle.rules_cost.specs.declared.Costs.{Costs}
 use Rattle.rules_library.specs.Slices.{cell_at, raw_point_at, points_in, costs_in}

@@ -1,4 +1,6 @@
 // The default curve from costs (paper 01, Default curve from costs; 39.7.1.1.1.1). The contracts cite the definitions of rules_cost.
+#![tactic(auto)]
+
 ghost use Rattle.std.specs.Prelude.{true, ◌&&◌, cond, List, ◌≡◌, ℕ, suc, ◌-◌, ◌*◌, ◌/◌, ◌≤◌, ◌<◌, leb, ltb, eqb, ℤ, pos, length};
 ghost use Rattle.std.specs.Int.Signed.{lt_z};
 ghost use Rattle.rules_number.specs.Order.{nat_of};
@@ -19,7 +21,7 @@ use rules_curve::{Checked, Curve, Outcome, Refusal, Step};
 const CHARGES: usize = 7;
 
 // Whether there is a default curve, and where it starts and ends: 0 and 0 where there is none.
-#[derive(Drop)]
+#[derive(Clone, Copy)]
 pub struct DefaultEnds {
     pub outcome: Outcome,
     pub start: u64,

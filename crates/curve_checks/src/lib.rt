@@ -1,4 +1,6 @@
 // The checks 1 to 3 of a curve as it is read (paper 01, Curve; Refused, by place). The contracts cite the definitions of rules_curve.
+#![tactic(auto)]
+
 ghost use Rattle.std.specs.Prelude.{◌↔◌, ◌≡◌, ℕ, ◌≤◌, length};
 ghost use Rattle.rules_curve.specs.Conditions.{bid_demands, default_demands};
 ghost use Rattle.rules_curve.specs.Demands.{First};

@@ -8,10 +8,9 @@ use native.Mathlib.Numerals.{add-one}
 use native.Mathlib.Omega.{arith}
 use borrow.Author.Tests.{ne_eqb}
 use lib.Dec.{eqb, ltb}
-use lib.IntN.{ℤ, pos, negsuc, neg_ℤ, nat_abs, ◌+ℤ◌, ◌*ℤ◌, +ℤ_idl, +ℤ_idr, +ℤ_assoc}
+use lib.IntN.{ℤ, pos, negsuc, nat_abs, ◌+ℤ◌, ◌*ℤ◌, +ℤ_idl, +ℤ_idr, +ℤ_assoc}
 use lib.ListN.{length, get_or, set, take, length-set}
-use lib.Seq.{take-suc, take-suc-set, take-set-le, take-length, get_or-take, length-take-le}
-use Rattle.rules_number.specs.Order.{nat_of}
+use lib.Seq.{take-suc, take-suc-set, take-set-le, take-length, length-take-le}
 use Rattle.rules_number.specs.Over.{those, sum_over}
 use Rattle.rules_number.proofs.Kit.{Bd, bd_abs, bd_add, bd_le, bd_mul, bd_neg, abs_bd}
 use Rattle.rules_number.proofs.OverLaws.{both, never}

@@ -1,5 +1,7 @@
 // What an interval, or a pass, makes of floor prices, and why (paper 01, Interval and hour; 31.2.3, 34.1.5; Refused, by place: 13 to 16).
 // The contracts cite specs/Entering, specs/Places and the definitions of rules_hour and rules_state.
+#![tactic(auto)]
+
 ghost use Rattle.std.specs.Prelude.{◌≡◌, true, cond, ◌*◌, ◌≤◌, ◌<◌, nat_abs, length};
 ghost use mathlib.Core.List.{[], ◌∷◌, flat_map};
 ghost use Rattle.std.proofs.lemmas.List.Edits.{sets};

@@ -1,5 +1,7 @@
 // The sixty-day tally of a constraint (paper 02, 2.10; 39.7.3). The contracts cite the definitions of rules_designation. `update` changes a lent tally; it is thin, over
 // `next`, which takes and hands back a tally. Every day that is added goes through it.
+#![tactic(auto)]
+
 ghost use Rattle.std.specs.Prelude.{◌≡◌};
 ghost use Rattle.rules_curve.specs.Refusals.{outcome_number};
 ghost use Rattle.rules_designation.specs.Tallies.{held_after, later_than, marks_within, day_refusal, pushed, tally_after, fresh_tally};
@@ -81,7 +83,7 @@ pub fn fresh() -> Tally
 }
 
 // What a day makes of a tally: the tally afterwards, and 25 where the day is refused.
-#[derive(Drop)]
+#[derive(Clone, Copy)]
 pub struct Updated {
     pub outcome: Outcome,
     pub tally: Tally,

@@ -1,4 +1,6 @@
 // An hour's marks, and the default designation by a tally (paper 02, 2.10; 39.7.3). The contracts cite the definitions of rules_designation.
+#![tactic(auto)]
+
 ghost use Rattle.std.specs.Prelude.{◌≡◌, map};
 ghost use Rattle.rules_state.specs.Verdicts.{finding_by};
 ghost use Rattle.rules_designation.specs.Designations.{hours_in, is_competitive, designation};

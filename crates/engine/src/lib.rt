@@ -1,5 +1,7 @@
 // Opening an hour, taking its intervals and their passes, and its bids (paper 01, Interval and hour; 31.2.3, 34.1.5; Refused, by place: 9 to 16; paper 02, 2.1 and 2.2:
 // 19 and 20). The contracts cite the definitions of rules_hour, rules_pass and rules_hour_bid; specs/Hours says which hour the struct stands for.
+#![tactic(auto)]
+
 ghost use Rattle.std.specs.Prelude.{◌↔◌, ◌≡◌, true, false, ℕ, pos, replicate};
 ghost use Rattle.rules_curve.specs.Demands.{First};
 ghost use Rattle.rules_curve.specs.Refusals.{outcome_number};
@@ -28,7 +30,7 @@ use rules_path::Verdict;
 use rules_state::Called;
 
 // An hour, as the cells of rules_state: its standing, the quarter hour that runs, who owns what, and its resources. Every content of them has a meaning.
-#[derive(Drop)]
+#[derive(Clone, Copy)]
 pub struct Hour {
     pub cells: [i64; rules_state::STATE_ROOM],
 }
@@ -73,14 +75,14 @@ fn outcome_of(called: Called) -> Outcome
 }
 
 // What opening answers: the fresh hour, or a blank one and the refusal.
-#[derive(Drop)]
+#[derive(Clone, Copy)]
 pub struct Opened {
     pub outcome: Outcome,
     pub hour: Hour,
 }
 
 // What an interval or a pass answers: the next hour and the verdicts, or the hour as it was and the refusal.
-#[derive(Drop)]
+#[derive(Clone, Copy)]
 pub struct Answer {
     pub outcome: Outcome,
     pub hour: Hour,

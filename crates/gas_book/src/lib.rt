@@ -1,5 +1,7 @@
 // The book of gas prices: two lent lists of (day, price), one for each market (paper 02, 2.7; 39.7.1.1.1.3; refusal 21). The contracts cite the definitions of
 // rules_gas.
+#![tactic(auto)]
+
 ghost use Rattle.std.specs.Prelude.{◌≡◌, ◌≤◌, length};
 ghost use Rattle.rules_gas.specs.Book.{length_of_run, days_rise, run_in, gas_run, run_refusal, book_refusal, gas_number, last_price, price_in_use};
 

@@ -1,4 +1,6 @@
 // The default curve from costs with a book's gas price: 21 before 4 to 8 (paper 02, 2.7; 39.7.1.1.1.3). The contracts cite the definitions of rules_gas.
+#![tactic(auto)]
+
 ghost use Rattle.std.specs.Prelude.{◌≡◌};
 ghost use Rattle.rules_curve.specs.Refusals.{outcome_number};
 ghost use Rattle.rules_gas.specs.Booked.{with_gas, priced_refusal, priced_curve, list_refusal, list_curve, booked_refusal, booked_curve};

@@ -1,5 +1,7 @@
 // An hour in lent cells: the present curve and the five-minute curve of a resource, and an interval or a pass taken (paper 01, Interval and hour; 31.2.3, 34.1.5; Refused,
 // by place: 12 to 16; paper 02, 2.1: 19). The contracts cite the definitions of rules_state and specs/Calls.
+#![tactic(auto)]
+
 ghost use Rattle.std.specs.Prelude.{◌≡◌};
 ghost use Rattle.std.proofs.lemmas.List.Edits.{sets};
 ghost use Rattle.rules_curve.specs.Refusals.{outcome_number};

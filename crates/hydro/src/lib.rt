@@ -1,4 +1,6 @@
 // The hydro pack (paper 02, 2.8; 39.7.1.7; refusal 22), above the engine. The contracts cite the definitions of rules_hydro.
+#![tactic(auto)]
+
 ghost use Rattle.std.specs.Prelude.{true, ◌≡◌, ◌≤◌, ◌<◌, pos, nat_abs, ◌*ℤ◌};
 ghost use Rattle.rules_number.specs.Ceil.{ceil_div};
 ghost use Rattle.rules_number.specs.Order.{in_range};

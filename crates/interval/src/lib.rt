@@ -1,4 +1,6 @@
 // The checks of an interval (paper 01, Interval and hour: Limits; Refused, by place). The contracts cite the definitions of rules_interval.
+#![tactic(auto)]
+
 ghost use Rattle.std.specs.Prelude.{◌≡◌, true, ◌&&◌, ◌+◌, ◌/◌, ◌≤◌, pos, neg_ℤ, length, drop};
 ghost use Rattle.rules_number.specs.Order.{in_range};
 ghost use Rattle.rules_number.specs.Over.{all_to};
@@ -11,7 +13,7 @@ use rules_curve::{Curve, Outcome, Refusal};
 use rules_interval::Interval;
 
 // The outputs of a resource in an interval.
-#[derive(Drop)]
+#[derive(Clone, Copy)]
 pub struct Output {
     pub lmp: i64,
     pub dispatch: i64,
@@ -158,7 +160,7 @@ fn output_good(available: i64, floor: i64, dispatch: i64) -> bool
 }
 
 // Whether locational prices are in range, and, where they are, whether the resources can be dispatched so.
-#[derive(Drop)]
+#[derive(Clone, Copy)]
 struct Judged {
     prices: bool,
     outputs: bool,

@@ -1,4 +1,6 @@
 // The curves of the resources of the hour that a lent slice of numbers stands for. The contracts cite the definitions of rules_state.
+#![tactic(auto)]
+
 ghost use Rattle.std.specs.Prelude.{◌≡◌, ◌+◌, ◌≤◌, get_or};
 ghost use Rattle.rules_opening.specs.Resources.{blank_row};
 ghost use Rattle.rules_state.specs.Layout.{state_room};

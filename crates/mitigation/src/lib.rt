@@ -1,4 +1,6 @@
 // The mitigated curve of a bid (paper 01, Interval and hour; 31.2.3, 34.1.5). The contracts cite the definitions of rules_mitigation.
+#![tactic(auto)]
+
 ghost use Rattle.std.specs.Prelude.{◌≡◌, ◌≤◌, length};
 ghost use Rattle.rules_curve.specs.Curves.{steps_of, bid_steps, quote};
 ghost use Rattle.rules_mitigation.specs.Mitigation.{lowered as loweredBy};

@@ -1,5 +1,7 @@
 // The checks of the counts and marks that an hour is opened from (paper 01, Refused, by place: 9, then 10).
 // The contracts cite the definitions of rules_opening.
+#![tactic(auto)]
+
 ghost use Rattle.std.specs.Prelude.{◌≡◌};
 ghost use Rattle.rules_number.specs.Over.{all_to};
 ghost use Rattle.rules_interval.specs.Intervals.{cell};

@@ -1,6 +1,5 @@
 -- Laws of an opening in numbers: its checks and its market read from the numbers themselves, and the rows put so far. Assumes nothing.
 use mathlib.Core.List.{List, [], ◌∷◌, ◌++◌, map, flat_map, append_assoc, append-nil}
-use mathlib.Core.Logic.{⊎_elim}
 use mathlib.Core.Path.{◌≡◌, refl, sym, ap, ap₂, ◌∙◌}
 use Prim.Native.Nat.{ℕ, zero, suc, ◌+◌, ◌*◌, ◌-◌, ◌≤◌, ◌<◌}
 use native.Mathlib.Nat.{add-zero}
@@ -11,7 +10,7 @@ use lib.ListN.{length, set, replicate, length-append, length-map}
 use lib.Seq.{sets}
 use Rattle.rules_number.specs.Order.{nat_of}
 use Rattle.rules_number.specs.Over.{all_to, listed, padded}
-use Rattle.rules_number.proofs.OverLaws.{all_same, last_or_before, listed_at, listed_length, listed_same, padded_length}
+use Rattle.rules_number.proofs.OverLaws.{all_same, listed_at, listed_length, listed_same, padded_length}
 use Rattle.rules_interval.specs.Intervals.{cell}
 use Rattle.rules_path.specs.declared.Market.{Market}
 use Rattle.rules_opening.specs.Openings.{no_resource, resource_at, seller_at, is_mark, is_known, sellers_good, owners_good, market_of}

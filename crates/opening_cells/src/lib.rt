@@ -1,5 +1,7 @@
 // What an hour is opened from, read from lent slices of numbers: a block for each resource, and a number past a slice's end counts as 0; and an hour opened from
 // them into its cells. The contracts cite the definitions of rules_state.
+#![tactic(auto)]
+
 ghost use Rattle.std.specs.Prelude.{true, ◌&&◌, leb, ◌++◌, ◌≡◌, ◌+◌, ◌-◌, ◌*◌, ◌≤◌, ◌<◌, pos, length};
 ghost use Rattle.std.proofs.lemmas.List.Edits.{sets};
 ghost use Rattle.std.specs.Int.Signed.{le_z};

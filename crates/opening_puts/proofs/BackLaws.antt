@@ -11,9 +11,7 @@ use Rattle.rules_number.specs.Order.{nat_of}
 use Rattle.rules_number.specs.Over.{listed}
 use Rattle.rules_number.proofs.ListedLaws.{listed_is}
 use Rattle.rules_number.proofs.OverLaws.{listed_at}
-use Rattle.rules_curve.specs.declared.RawStep.{RawStep}
 use Rattle.rules_curve.specs.declared.RawCurve.{RawCurve}
-use Rattle.rules_cost.specs.declared.Point.{Point}
 use Rattle.rules_cost.specs.declared.Costs.{Costs}
 use Rattle.rules_opening.specs.Openings.{no_resource}
 use Rattle.rules_opening.specs.declared.Opening.{Opening}

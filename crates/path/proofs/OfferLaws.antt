@@ -1,6 +1,6 @@
 -- What net sellers can withhold on the constraints of an interval, put one constraint after the other. Assumes nothing.
 use mathlib.Core.Bool.{Bool, true, false, cond}
-use mathlib.Core.List.{List, [], ◌∷◌, ◌++◌, flat_map, map-id}
+use mathlib.Core.List.{List, ◌∷◌, ◌++◌, flat_map, map-id}
 use mathlib.Core.Path.{◌≡◌, refl, sym, ap, ap₂, ◌∙◌}
 use Prim.Native.Nat.{ℕ, zero, suc, ◌+◌, ◌-◌, ◌*◌, ◌≤◌, ◌<◌}
 use native.Mathlib.Omega.{arith}

@@ -13,7 +13,7 @@ use rules_interval::Interval;
 use rules_path::{Market, Verdict};
 
 // What a pass over the resources adds up, beside what each net seller can withhold.
-#[derive(Drop)]
+#[derive(Clone, Copy)]
 pub(crate) struct Tally {
     demand: u64,
     supply: u64,
@@ -111,7 +111,7 @@ fn largest_of(w: &[u64; Market::MAX_PORTFOLIOS], ports: usize) -> usize
 }
 
 // The three largest amounts, added up, and whose they are.
-#[derive(Drop)]
+#[derive(Clone, Copy)]
 pub(crate) struct Top {
     total: u64,
     named: u64,

@@ -1,4 +1,6 @@
 // The path verdicts of an interval (paper 01, Path verdict). The contracts cite specs/Tallies and the definitions of rules_path.
+#![tactic(auto)]
+
 mod constraint;
 
 ghost use Rattle.std.specs.Prelude.{◌≡◌, ◌≤◌, ◌<◌, length};

@@ -1,5 +1,7 @@
 // Short on every path together (paper 02, 2.11): sets of net sellers tried in rising order of their number. The contracts cite specs/Rows and the definitions of
 // rules_pivotal.
+#![tactic(auto)]
+
 ghost use Rattle.std.specs.Prelude.{◌≡◌, true, ◌≤◌, ◌<◌, leb, pos};
 ghost use Rattle.std.specs.Int.Count.{ones};
 ghost use Rattle.std.specs.Int.Signed.{lt_z};
@@ -17,7 +19,7 @@ use rules_path::Market;
 use rules_pivotal::{Best, Found, Pivotal};
 
 // What the search answers: what it found, or a refusal and nothing.
-#[derive(Drop)]
+#[derive(Clone, Copy)]
 pub struct Answer {
     pub outcome: Outcome,
     pub found: Pivotal,

@@ -1,5 +1,7 @@
 // A fresh quarter hour, what a cut makes of a floor price, and the present curve of a resource (paper 01, Interval and hour; 31.2.3, 34.1.5;
 // paper 02, 2.1). The contracts cite the definitions of rules_hour and rules_pass.
+#![tactic(auto)]
+
 ghost use Rattle.std.specs.Prelude.{◌≡◌};
 ghost use Rattle.rules_hour.specs.Hours.{cut_floor, row_curve};
 ghost use Rattle.rules_mitigation.specs.Mitigation.{blank_mitigated};
@@ -13,6 +15,7 @@ use rules_opening::Row;
 use rules_pass::Quarter;
 
 // A quarter hour without a pass.
+#[tactic(auto, unfolding(rules_pass::specs::Passes::fresh_quarter))]
 pub fn fresh_quarter() -> Quarter
     ensures { result ≡ fresh_quarter }
 {
@@ -45,6 +48,7 @@ pub fn row_curve(row: Row, floor: Floor) -> Mitigated
 }
 
 // The curve with no step: that of a resource that an hour doesn't have, and of a refused hour bid.
+#[tactic(auto, unfolding(rules_number::specs::Over::padded))]
 pub fn blank_curve() -> Mitigated
     ensures { result ≡ blank_mitigated }
 {

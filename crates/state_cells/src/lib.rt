@@ -1,4 +1,6 @@
 // The floor prices of the hour that a lent slice of numbers stands for: a number past its end counts as 0. The contracts cite the definitions of rules_state.
+#![tactic(auto)]
+
 ghost use Rattle.std.specs.Prelude.{◌≡◌, ◌≤◌, get_or};
 ghost use Rattle.rules_hour.specs.Hours.{uncut};
 ghost use Rattle.rules_state.specs.Layout.{market_from};

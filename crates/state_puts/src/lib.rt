@@ -1,4 +1,6 @@
 // The quarter hour of an hour, put into a lent slice of numbers, and the numbers of a floor price. The contracts cite the definitions of rules_state.
+#![tactic(auto)]
+
 ghost use Rattle.std.specs.Prelude.{◌≡◌, map, ◌+◌, ◌≤◌, length};
 ghost use Rattle.std.proofs.lemmas.List.Edits.{sets};
 ghost use Rattle.rules_state.specs.Layout.{most_resources, counted_room, quarter_from, market_from};

@@ -1,11 +1,11 @@
 -- The cells of the verdicts of an interval, put over verdicts that are not binding. Assumes nothing.
 use mathlib.Core.List.{List, [], ◌∷◌, ◌++◌, map, flat_map, append_assoc, append-nil}
 use mathlib.Core.Path.{◌≡◌, refl, sym, ap, ◌∙◌}
-use Prim.Native.Nat.{ℕ, zero, suc, ◌+◌, ◌-◌, ◌*◌, ◌≤◌, ◌<◌}
+use Prim.Native.Nat.{ℕ, suc, ◌+◌, ◌-◌, ◌*◌, ◌≤◌, ◌<◌}
 use native.Mathlib.Numerals.{add-one}
 use native.Mathlib.Omega.{arith}
 use lib.IntN.{ℤ, pos}
-use lib.ListN.{length, length-replicate, set, take, drop, replicate, length-append, replicate-append-replicate}
+use lib.ListN.{length, length-replicate, set, drop, replicate, length-append, replicate-append-replicate}
 use lib.Seq.{sets, sets-eq, set_at}
 use Rattle.rules_number.specs.Over.{listed, padded}
 use Rattle.rules_number.proofs.OverLaws.{listed_length}

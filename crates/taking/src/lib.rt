@@ -1,5 +1,7 @@
 // An interval taken, and a pass: what each does to the standing of an hour and to its quarter hour (paper 01, Interval and hour; 31.2.3, 34.1.5; Refused, by place: 12
 // to 16; paper 02, 2.1: 19). The contracts cite the definitions of rules_hour and rules_pass.
+#![tactic(auto)]
+
 ghost use Rattle.std.specs.Prelude.{◌≡◌, replicate};
 ghost use Rattle.std.proofs.lemmas.List.Edits.{sets};
 ghost use Rattle.rules_curve.specs.Refusals.{outcome_number};

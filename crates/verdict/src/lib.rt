@@ -1,4 +1,6 @@
 // The number of a finding, and how many sellers a verdict names (paper 01, Path verdict). The contracts cite the definitions of rules_path.
+#![tactic(auto)]
+
 ghost use Rattle.std.specs.Prelude.{◌≡◌};
 ghost use Rattle.std.specs.Int.Count.{ones};
 ghost use Rattle.rules_path.specs.Verdicts.{finding_number};

@@ -1,4 +1,6 @@
 // The verdicts of an interval read from a lent slice of numbers. The contracts cite the definitions of rules_state.
+#![tactic(auto)]
+
 ghost use Rattle.std.specs.Prelude.{◌≡◌, ◌<◌};
 ghost use Rattle.rules_state.specs.Layout.{most_constraints, most_portfolios};
 ghost use Rattle.rules_state.specs.States.{wholes_in};

@@ -1,0 +1,13 @@
+-- `opening_cells::put_fresh`: zeros, and over them what is known.
+use Prim.Native.Nat.{◌≤◌}
+use native.Mathlib.Omega.{arith}
+use lib.IntN.{pos}
+use Rattle.rules_state.specs.Layout.{most_resources, most_portfolios}
+use Rattle.opening_cells.proofs.OpenLaws.{fresh_made}
+use Rattle.opening_cells.proofs.put_fresh.Goals as goal
+
+pub returns : goal.returns
+returns c =
+    let n : c.args.resources ≤ most_resources = omega arith in
+    let k : c.args.portfolios ≤ most_portfolios = omega arith in
+    fresh_made (pos 0) c.args.portfolios c.args.sellers.now c.args.resources c.args.blocks.now n k c.args.state.now _ _ _ _ c.clear.ensures c.put_whole.ensures c.put_each.ensures c.put_each-2.ensures
