@@ -179,18 +179,17 @@ def test_wrong_words_and_a_wrong_python_are_a_line() -> None:
         assert (ended.status, ended.line) == (1, f"python/install: {python} is no Python of version 3.9 or later; PYTHON names another")
 
 
+CRATES = ("", "_judgements", "_hour", "_curves", "_why", "_days", "_pivotal")
 RT = """\
 #!/bin/sh
-# stands in for rt: a crate below is proved, what is being proved waits for the file seen, and then there is an archive
-[ -d target ] || exit 9
+# stands in for rt in a crate's folder: what is being proved after the first waits for the file seen, and then there is an archive
+[ "$*" = lib ] || exit 9
+name=$(basename "$PWD")
 echo "fn number::larger: proved" >&2
-echo "rt: number proved (unchanged since it was last proved)" >&2
-echo "rt: below_$2 proved (3 s)" >&2
-until [ -f seen ]; do sleep 0.01; done
-mkdir -p target/staticlib
-echo "int $2(void) { return 0; }" | gcc -x c -c -o "$2.o" -
-ar rcs "target/staticlib/lib$2.a" "$2.o"
-echo "rt: target/staticlib/lib$2.a has the functions of $2 that are marked"
+until [ "$name" = noskjerf ] || [ -f ../../seen ]; do sleep 0.01; done
+mkdir -p out
+echo "int $name(void) { return 0; }" | gcc -x c -c -o "$name.o" -
+ar rcs "out/lib$name.a" "$name.o"
 """
 
 
@@ -198,6 +197,8 @@ def empty_project(folder: Path, rt: str) -> dict[str, str]:
     """Puts ./archive alone into a folder, and answers an environment with a stand-in for rt."""
     shutil.copy(ROOT / "archive", folder)
     (folder / "bin").mkdir()
+    for which in CRATES:
+        (folder / "crates" / f"noskjerf{which}").mkdir(parents=True)
     (folder / "bin" / "rt").write_text(rt)
     (folder / "bin" / "rt").chmod(0o755)
     return {**os.environ, "PATH": f"{folder / 'bin'}:{os.environ['PATH']}"}
@@ -207,19 +208,13 @@ def test_the_archive_is_made_where_there_is_no_target_and_tells_of_each_crate_as
     environment = empty_project(tmp_path, RT)
     with subprocess.Popen([tmp_path / "archive"], env=environment, stdout=subprocess.PIPE, text=True) as archive:
         assert archive.stdout is not None
-        assert archive.stdout.readline() == "archive: below_noskjerf proved (3 s)\n"
+        assert archive.stdout.readline() == "archive: noskjerf proved, for C\n"
         (tmp_path / "seen").touch()
         rest = archive.stdout.read().splitlines()
     assert archive.returncode == 0
-    assert rest[:3] == [
-        "archive: noskjerf proved, for C",
-        "archive: below_noskjerf_judgements proved (3 s)",
-        "archive: noskjerf_judgements proved, for C",
-    ]
-    assert len(rest) == 14
-    assert rest[-1] == "archive: target/lib/libnoskjerf.a"
+    assert rest == [*(f"archive: noskjerf{which} proved, for C" for which in CRATES[1:]), "archive: target/lib/libnoskjerf.a"]
     made = subprocess.run(["ar", "t", tmp_path / "target" / "lib" / "libnoskjerf.a"], capture_output=True, text=True, check=True)
-    assert sorted(made.stdout.split()) == sorted(f"noskjerf{which}.o" for which in ("", "_judgements", "_hour", "_curves", "_why", "_days", "_pivotal"))
+    assert sorted(made.stdout.split()) == sorted(f"noskjerf{which}.o" for which in CRATES)
 
 
 def test_what_is_not_proved_is_shown_whole_and_makes_no_archive(tmp_path: Path) -> None:
