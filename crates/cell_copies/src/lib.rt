@@ -12,22 +12,17 @@ fn onward(place: usize, step: usize, end: usize) -> usize
     requires { place ≤ end }
     ensures { result ≡ least (place + step) end }
 {
-    if end - place <= step {
-        return end;
-    }
-    place + step
+    place.saturating_add(step).min(end)
 }
 
 // Fills with the numbers from a place on, each `step` after the one before it.
 pub fn fill_every(into: &mut [i64], from: &[i64], at: usize, step: usize)
     ensures { into.new ≡ listed (λ k. cell_at from.now (step * k + at)) (length into.old) }
 {
-    let mut place = number::at_most(at, from.len());
-    let mut k: usize = 0;
-    while k < into.len() {
-        into[k] = cells::cell_at(from, place);
+    let mut place = at.min(from.len());
+    for x in into.iter_mut() {
+        *x = cells::cell_at(from, place);
         place = onward(place, step, from.len());
-        k += 1;
     }
 }
 
@@ -38,24 +33,12 @@ pub fn fill(into: &mut [i64], from: &[i64], at: usize)
     fill_every(into, from, at, 1);
 }
 
-// How many numbers of a slice of this length are left from a place on.
-fn left_from(length: usize, at: usize) -> usize
-    ensures { result ≡ length - at }
-{
-    if length < at {
-        return 0;
-    }
-    length - at
-}
-
 // Puts numbers in turn, from an offset on.
 pub fn put_all(out: &mut [i64], at: usize, from: &[i64])
     ensures { out.new ≡ sets out.old at from.now }
 {
-    let room = number::at_most(from.len(), left_from(out.len(), at));
-    let mut i: usize = 0;
-    while i < room {
+    let room = from.len().min(out.len().saturating_sub(at));
+    for i in 0..room {
         out[at + i] = from[i];
-        i += 1;
     }
 }

@@ -11,7 +11,7 @@ ghost use Rattle.rules_state.specs.States.{cell_of};
 pub fn cell_at(s: &[i64], i: usize) -> i64
     ensures { result ≡ cell_at s.now i }
 {
-    if i < s.len() { s[i] } else { 0 }
+    s.get(i).copied().unwrap_or(0)
 }
 
 // The same as a whole number: 0 for a negative one.
@@ -34,10 +34,7 @@ pub fn put(cells: &mut [i64], i: usize, x: i64)
 fn cell_of(n: u64) -> i64
     ensures { result ≡ cell_of n }
 {
-    if n < 9_223_372_036_854_775_807 {
-        return n as i64;
-    }
-    9_223_372_036_854_775_807
+    i64::try_from(n).unwrap_or(i64::MAX)
 }
 
 // Puts a whole number at an index.

@@ -64,10 +64,8 @@ pub fn bids() -> [RawCurve; Classroom::BIDS]
     ensures { result ≡ classroom_bids }
 {
     let mut list = [bid(0); Classroom::BIDS];
-    let mut k: usize = 0;
-    while k < Classroom::BIDS {
-        list[k] = bid(k);
-        k += 1;
+    for (k, place) in list.iter_mut().enumerate() {
+        *place = bid(k);
     }
     list
 }

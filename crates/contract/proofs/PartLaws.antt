@@ -1,40 +1,27 @@
 -- Where a part ends, the steps of both in their array, and the refusals in their order. Assumes nothing.
 use mathlib.Core.Bool.{true, false}
-use mathlib.Core.Path.{◌≡◌, refl, sym, ap, subst, ◌∙◌}
-use Prim.Native.Nat.{ℕ, zero, suc, ◌+◌, ◌-◌, ◌≤◌, ◌<◌}
-use native.Mathlib.Omega.{arith}
+use mathlib.Core.Path.{◌≡◌, sym, ap, subst}
+use Prim.Native.Nat.{ℕ, ◌+◌, ◌≤◌, ◌<◌}
 use borrow.Author.Tests.{le-leb, lt-leb}
 use lib.IntN.{ℤ}
-use lib.ListN.{length, get_or}
+use lib.ListN.{length}
 use Rattle.rules_number.specs.Order.{eq_z}
 use Rattle.rules_number.specs.Over.{listed, padded}
 use Rattle.rules_number.proofs.HighestLaws.{highest_from}
 use Rattle.rules_number.proofs.OrderLaws.{eq_z_same}
-use Rattle.rules_curve.specs.Conditions.{no_step, step_at, edge, Counted}
+use Rattle.rules_curve.specs.Conditions.{no_step, edge, Counted}
 use Rattle.rules_curve.specs.Curves.{most_steps, lowest_default, highest_default, default_refusal}
-use Rattle.rules_curve.specs.Refusals.{outcome_number, unless}
-use Rattle.rules_curve.specs.declared.Outcome.{Outcome}
-use Rattle.rules_curve.specs.declared.Outcome.TheVariants.{Refused}
-use Rattle.rules_curve.specs.declared.Refusal.{Refusal}
+use Rattle.rules_curve.specs.Refusals.{unless}
 use Rattle.rules_curve.specs.declared.RawCurve.{RawCurve}
 use Rattle.rules_curve.proofs.CheckLaws.{checks_good}
 use Rattle.rules_curve.proofs.Exactly.{count_exactly}
 use Rattle.rules_curve.proofs.FirstLaws.{then_positive}
-use Rattle.rules_curve.proofs.RefusalLaws.{refused_number}
 use Rattle.rules_contract.specs.ContractUnits.{joined_steps, step_price, raised_step, raised, joined_raw, lowest, meets, few_together, contract_refusal}
 use Rattle.rules_contract.proofs.Exactly.{none_lowest}
-use Rattle.rules_contract.proofs.JoinLaws.{joined_length, joined_count, second_at}
-
-pub last_edge : (c : RawCurve) → 1 ≤ c.count → (get_or c.steps (c.count - 1) no_step).end ≡ edge c c.count
-last_edge c h = let e : suc (c.count - 1) ≡ c.count = omega arith in ap (edge c) e
+use Rattle.rules_contract.proofs.JoinLaws.{joined_length, joined_count}
 
 -- ---- the steps of both
 module _ (a b : RawCurve) (room_a : a.count ≤ length a.steps) (room_b : b.count ≤ length b.steps) where
-  pub later_at : (i : ℕ) → a.count ≤ i → i < a.count + b.count → get_or (joined_steps a b) i no_step ≡ step_at b (i - a.count)
-  later_at i h k =
-      let e : i ≡ a.count + (i - a.count) = omega arith in
-      ap (λ (n : ℕ). get_or (joined_steps a b) n no_step) e ∙ second_at a b room_a room_b (i - a.count) (omega arith)
-
   pub steps_are : (joined_raw a b).steps ≡ padded most_steps no_step (listed (raised_step (joined_steps a b)) (a.count + b.count))
   unfolding joined_raw raised
   steps_are = ap (λ (n : ℕ). padded most_steps no_step (listed (raised_step (joined_steps a b)) n)) (joined_length a b room_a room_b)
@@ -49,21 +36,6 @@ prices a b = step_price (joined_steps a b)
 
 abbrev pub largest_to : RawCurve → RawCurve → ℕ → ℤ
 largest_to a b i = highest_from (prices a b 0) (prices a b) i
-
--- ---- the lower number
-pub lowest_second : (m n : ℕ) → (m ≡ 0 → ⊥) → n ≡ 0 → m ≡ lowest m n
-lowest_second zero n h e = absurd (h refl)
-lowest_second (suc m) n h e = rw e
-
-pub lowest_le : (m n : ℕ) → (m ≡ 0 → ⊥) → (n ≡ 0 → ⊥) → m ≤ n → m ≡ lowest m n
-lowest_le zero n h k l = absurd (h refl)
-lowest_le (suc m) zero h k l = absurd (k refl)
-lowest_le (suc m) (suc n) h k l = omega arith
-
-pub lowest_gt : (m n : ℕ) → (m ≡ 0 → ⊥) → (n ≡ 0 → ⊥) → n < m → n ≡ lowest m n
-lowest_gt zero n h k l = absurd (h refl)
-lowest_gt (suc m) zero h k l = absurd (k refl)
-lowest_gt (suc m) (suc n) h k l = omega arith
 
 -- ---- the refusals in order
 module _ (a b : RawCurve) where
@@ -97,6 +69,3 @@ module _ (a b : RawCurve) where
       pub taken : a.count + b.count ≤ 11 → contract_refusal a b ≡ 0
       unfolding contract_refusal
       taken h = rw (none, meet, le-leb (a.count + b.count) most_steps h)
-
-pub some_number : {o : Outcome} {r : Refusal} → o ≡ Refused r → 0 < outcome_number o
-some_number {o} {r} e = subst (λ (x : Outcome). 0 < outcome_number x) (sym e) (refused_number r)

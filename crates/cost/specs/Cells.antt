@@ -3,11 +3,10 @@ use Rattle.std.specs.Prelude.{Bool, ◌&&◌, List, [], ◌∷◌, ℕ, ◌+◌,
 use Rattle.std.specs.Int.Signed.{lt_z}
 use Rattle.rules_curve.specs.Curves.{steps_of, end_of}
 use Rattle.rules_curve.specs.declared.Curve.{Curve}
-use Rattle.rules_curve.specs.declared.Outcome.{Outcome}
 use Rattle.rules_cost.specs.declared.Point.{Point}
 use Rattle.rules_cost.specs.declared.Costs.{Costs}
 use Rattle.rules_library.specs.Slices.{cell_at}
-use Rattle.cost.specs.declared.DefaultEnds.{DefaultEnds}
+use Rattle.cost.specs.declared.Ends.{Ends}
 
 -- gas, rate, allowance, om, msc, soc and fee
 abbrev pub charge_count : ℕ
@@ -23,6 +22,6 @@ point_of mw heat = record { mw = mw; heat = heat }
 abbrev pub splits_at : List ℤ → ℤ → ℕ → Bool
 splits_at points k i = lt_z (cell_at points (2 * i)) k && lt_z k (cell_at points (2 * i + 2))
 
--- an outcome, and where a curve starts and ends
-abbrev pub ends_from : Outcome → Curve → DefaultEnds
-ends_from outcome c = record { outcome = outcome; start = c.start; end = end_of c.start (steps_of c) }
+-- where a curve starts and ends
+abbrev pub ends_of : Curve → Ends
+ends_of c = record { start = c.start; end = end_of c.start (steps_of c) }

@@ -2,28 +2,27 @@
 #![tactic(auto)]
 
 ghost use Rattle.std.specs.Prelude.{true, ◌&&◌, cond, List, ◌≡◌, ℕ, suc, ◌-◌, ◌*◌, ◌/◌, ◌≤◌, ◌<◌, leb, ltb, eqb, ℤ, pos, length};
+ghost use Rattle.std.specs.Result.{result_unwrap_or};
 ghost use Rattle.std.specs.Int.Signed.{lt_z};
 ghost use Rattle.rules_number.specs.Order.{nat_of};
 ghost use Rattle.rules_number.specs.Ceil.{ceil_div};
 ghost use Rattle.rules_curve.specs.Refusals.{outcome_number, unless};
 ghost use Rattle.rules_curve.specs.Curves.{unless_refused, blank_curve};
-ghost use Rattle.rules_curve.specs.declared.Outcome.TheVariants.{Refused};
 ghost use Rattle.rules_library.specs.Slices.{points_in, costs_in};
 ghost use Rattle.rules_state.specs.States.{curve_cells, curve_in_cells};
 ghost use Rattle.rules_state.specs.Takes.{if_accepted};
-ghost use Rattle.cost.specs.Cells.{ends_from, charge_count, charges_of, point_of, splits_at};
+ghost use Rattle.cost.specs.Cells.{ends_of, charge_count, charges_of, point_of, splits_at};
 ghost use Rattle.rules_cost.specs.Costs.{most_points, first_to, mw_in_range, heat_in_range, rate_in_range, incremental_rate, with_adder, cost_curve, points_good, mw_good, heat_good, charges_in_range, prices_in_range, rates_good, cost_refusal};
 
 use rules_cost::{Costs, Point};
-use rules_curve::{Checked, Curve, Outcome, Refusal, Step};
+use rules_curve::{Curve, Refusal, Step};
 
 // The charges: gas, rate, allowance, om, msc, soc and fee.
 const CHARGES: usize = 7;
 
-// Whether there is a default curve, and where it starts and ends: 0 and 0 where there is none.
+// Where a default curve starts and ends.
 #[derive(Clone, Copy)]
-pub struct DefaultEnds {
-    pub outcome: Outcome,
+pub struct Ends {
     pub start: u64,
     pub end: u64,
 }
@@ -63,12 +62,10 @@ fn split_at(n: usize, points: &[i64], k: i64) -> usize
     requires { (n < most_points) × (2 * most_points ≤ length points.now) }
     ensures { result ≡ first_to (splits_at points.now k) n }
 {
-    let mut i: usize = 0;
-    while i < n {
+    for i in 0..n {
         if lies_inside(points[2 * i], k, points[2 * i + 2]) {
             return i;
         }
-        i += 1;
     }
     n
 }
@@ -105,14 +102,12 @@ fn quantities_good(n: usize, points: &[i64]) -> bool
     ensures { (charges : List ℤ) → result ≡ mw_good (costs_in n points.now charges) }
 {
     let mut before: i64 = -1;
-    let mut i: usize = 0;
-    while i < n {
+    for i in 0..n {
         let m = points[2 * i];
         if m <= before {
             return false;
         }
         before = m;
-        i += 1;
     }
     before <= Curve::MAX_QUANTITY
 }
@@ -122,12 +117,10 @@ fn heats_good(n: usize, points: &[i64]) -> bool
     requires { (n ≤ most_points) × (2 * most_points ≤ length points.now) }
     ensures { (charges : List ℤ) → result ≡ heat_good (costs_in n points.now charges) }
 {
-    let mut i: usize = 0;
-    while i < n {
+    for i in 0..n {
         if !number::within(points[2 * i + 1], Point::MIN_HEAT, Point::MAX_HEAT) {
             return false;
         }
-        i += 1;
     }
     true
 }
@@ -194,31 +187,20 @@ fn step_price(charges: &[i64], largest: i64, rate: i64, width: i64) -> i64
     lifted as i64 - 330_000_000
 }
 
-// A refusal alone.
-fn refused(refusal: Refusal) -> DefaultEnds
-    ensures { result ≡ ends_from (Refused refusal) blank_curve }
-{
-    DefaultEnds {
-        outcome: Outcome::Refused(refusal),
-        start: 0,
-        end: 0,
-    }
-}
-
 // Puts the default curve of costs that pass 4 to 7, or answers refusal 8. M and the price start at the lowest that they can be.
 fn stepped(
     n: usize,
     points: &[i64],
     charges: &[i64],
     cells: &mut [i64; rules_state::CURVE_ROOM],
-) -> DefaultEnds
+) -> Result<Ends, Refusal>
     requires room { (2 * most_points ≤ length points.now) × (charge_count ≤ length charges.now) }
     requires points { points_good (costs_in n points.now charges.now) ≡ true }
     requires quantities { mw_good (costs_in n points.now charges.now) ≡ true }
     requires heats { heat_good (costs_in n points.now charges.now) ≡ true }
     requires prices { prices_in_range (costs_in n points.now charges.now) ≡ true }
-    ensures number { outcome_number result.outcome ≡ unless (rates_good (costs_in n points.now charges.now)) 8 }
-    ensures ends { result ≡ ends_from result.outcome (unless_refused (unless (rates_good (costs_in n points.now charges.now)) 8) (cost_curve (costs_in n points.now charges.now))) }
+    ensures number { outcome_number result ≡ unless (rates_good (costs_in n points.now charges.now)) 8 }
+    ensures ends { result_unwrap_or result (ends_of blank_curve) ≡ ends_of (unless_refused (unless (rates_good (costs_in n points.now charges.now)) 8) (cost_curve (costs_in n points.now charges.now))) }
     ensures cells { cells.new ≡ if_accepted (unless (rates_good (costs_in n points.now charges.now)) 8) (curve_cells (cost_curve (costs_in n points.now charges.now))) cells.old }
 {
     let segments = n - 1;
@@ -233,8 +215,7 @@ fn stepped(
     curve[1] = edge;
     let mut largest = -Costs::MAX_INCREMENTAL;
     let mut price = Curve::LOWEST_DEFAULT;
-    let mut t: usize = 0;
-    while t < count {
+    for t in 0..count {
         let i = segment_of(split, t);
         let end = end_of(split, t, k, points[2 * i + 2]);
         let rate = incremental_rate(
@@ -246,21 +227,19 @@ fn stepped(
             top,
         );
         if !number::within(rate, -Costs::MAX_INCREMENTAL, Costs::MAX_INCREMENTAL) {
-            return refused(Refusal::IncrementalRate);
+            return Err(Refusal::IncrementalRate);
         }
         largest = number::max(largest, rate);
         price = number::max(price, step_price(charges, largest, rate, end - edge));
         curve[2 + t] = end;
         curve[2 + Curve::MAX_STEPS + t] = price;
         edge = end;
-        t += 1;
     }
     *cells = curve;
-    DefaultEnds {
-        outcome: Outcome::Accepted,
+    Ok(Ends {
         start: number::whole(first),
         end: number::whole(edge),
-    }
+    })
 }
 
 // The same of eleven points and seven charges, which lie in the slices.
@@ -269,26 +248,26 @@ fn from_whole(
     points: &[i64],
     charges: &[i64],
     cells: &mut [i64; rules_state::CURVE_ROOM],
-) -> DefaultEnds
+) -> Result<Ends, Refusal>
     requires { (2 * most_points ≤ length points.now) × (charge_count ≤ length charges.now) }
-    ensures number { outcome_number result.outcome ≡ cost_refusal (costs_in n points.now charges.now) }
-    ensures ends { result ≡ ends_from result.outcome (unless_refused (cost_refusal (costs_in n points.now charges.now)) (cost_curve (costs_in n points.now charges.now))) }
+    ensures number { outcome_number result ≡ cost_refusal (costs_in n points.now charges.now) }
+    ensures ends { result_unwrap_or result (ends_of blank_curve) ≡ ends_of (unless_refused (cost_refusal (costs_in n points.now charges.now)) (cost_curve (costs_in n points.now charges.now))) }
     ensures cells { cells.new ≡ if_accepted (cost_refusal (costs_in n points.now charges.now)) (curve_cells (cost_curve (costs_in n points.now charges.now))) cells.old }
 {
     if n < Costs::MIN_POINTS {
-        return refused(Refusal::PointCount);
+        return Err(Refusal::PointCount);
     }
     if Costs::MAX_POINTS < n {
-        return refused(Refusal::PointCount);
+        return Err(Refusal::PointCount);
     }
     if !quantities_good(n, points) {
-        return refused(Refusal::Quantity);
+        return Err(Refusal::Quantity);
     }
     if !heats_good(n, points) {
-        return refused(Refusal::HeatRate);
+        return Err(Refusal::HeatRate);
     }
     if !prices_good(charges) {
-        return refused(Refusal::CostRange);
+        return Err(Refusal::CostRange);
     }
     stepped(n, points, charges, cells)
 }
@@ -299,9 +278,9 @@ fn from_short(
     points: &[i64],
     charges: &[i64],
     cells: &mut [i64; rules_state::CURVE_ROOM],
-) -> DefaultEnds
-    ensures number { outcome_number result.outcome ≡ cost_refusal (costs_in n points.now charges.now) }
-    ensures ends { result ≡ ends_from result.outcome (unless_refused (cost_refusal (costs_in n points.now charges.now)) (cost_curve (costs_in n points.now charges.now))) }
+) -> Result<Ends, Refusal>
+    ensures number { outcome_number result ≡ cost_refusal (costs_in n points.now charges.now) }
+    ensures ends { result_unwrap_or result (ends_of blank_curve) ≡ ends_of (unless_refused (cost_refusal (costs_in n points.now charges.now)) (cost_curve (costs_in n points.now charges.now))) }
     ensures cells { cells.new ≡ if_accepted (cost_refusal (costs_in n points.now charges.now)) (curve_cells (cost_curve (costs_in n points.now charges.now))) cells.old }
 {
     let mut whole = [0i64; 2 * Costs::MAX_POINTS];
@@ -318,9 +297,9 @@ pub fn default_cells(
     points: &[i64],
     charges: &[i64],
     cells: &mut [i64; rules_state::CURVE_ROOM],
-) -> DefaultEnds
-    ensures number { outcome_number result.outcome ≡ cost_refusal (costs_in n points.now charges.now) }
-    ensures ends { result ≡ ends_from result.outcome (unless_refused (cost_refusal (costs_in n points.now charges.now)) (cost_curve (costs_in n points.now charges.now))) }
+) -> Result<Ends, Refusal>
+    ensures number { outcome_number result ≡ cost_refusal (costs_in n points.now charges.now) }
+    ensures ends { result_unwrap_or result (ends_of blank_curve) ≡ ends_of (unless_refused (cost_refusal (costs_in n points.now charges.now)) (cost_curve (costs_in n points.now charges.now))) }
     ensures cells { cells.new ≡ if_accepted (cost_refusal (costs_in n points.now charges.now)) (curve_cells (cost_curve (costs_in n points.now charges.now))) cells.old }
 {
     if points.len() < 2 * Costs::MAX_POINTS {
@@ -337,14 +316,9 @@ fn numbers_of(points: [Point; Costs::MAX_POINTS]) -> [i64; 2 * Costs::MAX_POINTS
     ensures { points_in result ≡ points }
 {
     let mut numbers = [0i64; 2 * Costs::MAX_POINTS];
-    let mut i: usize = 0;
-    while i < Costs::MAX_POINTS {
-        let p = points[i];
-        let mw = p.mw;
-        let heat = p.heat;
-        numbers[2 * i] = mw;
-        numbers[2 * i + 1] = heat;
-        i += 1;
+    for (i, point) in points.iter().enumerate() {
+        numbers[2 * i] = point.mw;
+        numbers[2 * i + 1] = point.heat;
     }
     numbers
 }
@@ -353,14 +327,15 @@ fn numbers_of(points: [Point; Costs::MAX_POINTS]) -> [i64; 2 * Costs::MAX_POINTS
 fn charges_of(costs: Costs) -> [i64; CHARGES]
     ensures { result ≡ charges_of costs }
 {
-    let gas = costs.gas;
-    let rate = costs.rate;
-    let allowance = costs.allowance;
-    let om = costs.om;
-    let msc = costs.msc;
-    let soc = costs.soc;
-    let fee = costs.fee;
-    [gas, rate, allowance, om, msc, soc, fee]
+    [
+        costs.gas,
+        costs.rate,
+        costs.allowance,
+        costs.om,
+        costs.msc,
+        costs.soc,
+        costs.fee,
+    ]
 }
 
 // The curve of its cells.
@@ -368,12 +343,11 @@ fn curve_in(s: &[i64]) -> Curve
     ensures { result ≡ curve_in_cells s.now 0 }
 {
     let mut steps = [Step { end: 0, price: 0 }; Curve::MAX_STEPS];
-    let mut i: usize = 0;
-    while i < Curve::MAX_STEPS {
-        let end = cells::whole_at(s, 2 + i);
-        let price = cells::cell_at(s, 2 + Curve::MAX_STEPS + i);
-        steps[i] = Step { end, price };
-        i += 1;
+    for (i, step) in steps.iter_mut().enumerate() {
+        *step = Step {
+            end: cells::whole_at(s, 2 + i),
+            price: cells::cell_at(s, 2 + Curve::MAX_STEPS + i),
+        };
     }
     Curve {
         start: cells::whole_at(s, 1),
@@ -383,16 +357,13 @@ fn curve_in(s: &[i64]) -> Curve
 }
 
 // The default curve, or the lowest of refusals 4 to 8 that applies.
-pub fn default_curve(costs: Costs) -> Checked
-    ensures number { outcome_number result.outcome ≡ cost_refusal costs }
-    ensures curve { result.curve ≡ unless_refused (cost_refusal costs) (cost_curve costs) }
+pub fn default_curve(costs: Costs) -> Result<Curve, Refusal>
+    ensures number { outcome_number result ≡ cost_refusal costs }
+    ensures curve { result_unwrap_or result blank_curve ≡ unless_refused (cost_refusal costs) (cost_curve costs) }
 {
-    let points = costs.points;
-    let numbers = numbers_of(points);
+    let numbers = numbers_of(costs.points);
     let charges = charges_of(costs);
     let mut cells = [0i64; rules_state::CURVE_ROOM];
-    let default = default_cells(costs.count, &numbers, &charges, &mut cells);
-    let outcome = default.outcome;
-    let curve = curve_in(&cells);
-    Checked { outcome, curve }
+    default_cells(costs.count, &numbers, &charges, &mut cells)?;
+    Ok(curve_in(&cells))
 }

@@ -2,9 +2,8 @@
 // definitions of rules_library and rules_state.
 #![tactic(auto)]
 
-ghost use Rattle.std.specs.Prelude.{◌≡◌, ◌∷◌, map, ◌≤◌, set, take};
+ghost use Rattle.std.specs.Prelude.{◌≡◌, ◌∷◌, map, set};
 ghost use Rattle.std.proofs.lemmas.List.Edits.{sets};
-ghost use Rattle.rules_mitigation.specs.Mitigation.{most_mitigated_steps};
 ghost use Rattle.rules_library.specs.Slices.{edges_of, prices_of};
 ghost use Rattle.rules_state.specs.Curves.{mitigated_edges, mitigated_prices};
 
@@ -20,38 +19,25 @@ fn put(edges: &mut [u64], i: usize, n: u64)
     }
 }
 
-// The first n steps.
-fn put_steps(edges: &mut [u64], prices: &mut [i64], steps: [Step; Mitigated::MAX_STEPS], n: usize)
-    requires { n ≤ most_mitigated_steps }
-    ensures edges { edges.new ≡ sets edges.old 2 (map (λ s. s.end) (take n steps)) }
-    ensures prices { prices.new ≡ sets prices.old 0 (map (λ s. s.price) (take n steps)) }
+// So many steps.
+fn put_steps(edges: &mut [u64], prices: &mut [i64], steps: &[Step])
+    ensures edges { edges.new ≡ sets edges.old 2 (map (λ s. s.end) steps.now) }
+    ensures prices { prices.new ≡ sets prices.old 0 (map (λ s. s.price) steps.now) }
 {
-    let mut k: usize = 0;
-    while k < n {
-        let step = steps[k];
-        let price = step.price;
+    for (k, step) in steps.iter().enumerate() {
         put(edges, 2 + k, step.end);
-        cells::put(prices, k, price);
-        k += 1;
+        cells::put(prices, k, step.price);
     }
 }
 
-// A curve of this number of steps and this start, as its first n steps.
-fn put_curve(
-    edges: &mut [u64],
-    prices: &mut [i64],
-    count: usize,
-    start: u64,
-    steps: [Step; Mitigated::MAX_STEPS],
-    n: usize,
-)
-    requires { n ≤ most_mitigated_steps }
-    ensures edges { edges.new ≡ sets edges.old 0 (count ∷ start ∷ map (λ s. s.end) (take n steps)) }
-    ensures prices { prices.new ≡ sets prices.old 0 (map (λ s. s.price) (take n steps)) }
+// A curve of this number of steps, this start and these steps.
+fn put_curve(edges: &mut [u64], prices: &mut [i64], count: usize, start: u64, steps: &[Step])
+    ensures edges { edges.new ≡ sets edges.old 0 (count ∷ start ∷ map (λ s. s.end) steps.now) }
+    ensures prices { prices.new ≡ sets prices.old 0 (map (λ s. s.price) steps.now) }
 {
     put(edges, 0, count as u64);
     put(edges, 1, start);
-    put_steps(edges, prices, steps, n);
+    put_steps(edges, prices, steps);
 }
 
 // A mitigated curve.
@@ -59,15 +45,7 @@ pub fn put_mitigated(edges: &mut [u64], prices: &mut [i64], curve: Mitigated)
     ensures edges { edges.new ≡ sets edges.old 0 (mitigated_edges curve) }
     ensures prices { prices.new ≡ sets prices.old 0 (mitigated_prices curve) }
 {
-    let steps = curve.steps;
-    put_curve(
-        edges,
-        prices,
-        curve.count,
-        curve.start,
-        steps,
-        Mitigated::MAX_STEPS,
-    );
+    put_curve(edges, prices, curve.count, curve.start, &curve.steps);
 }
 
 // A default curve; of a count past its room, the steps that it has.
@@ -75,14 +53,6 @@ pub fn put_default(edges: &mut [u64], prices: &mut [i64], default: Curve)
     ensures edges { edges.new ≡ sets edges.old 0 (edges_of default) }
     ensures prices { prices.new ≡ sets prices.old 0 (prices_of default) }
 {
-    let steps = default.steps;
-    let wide = curve::widened(steps);
-    put_curve(
-        edges,
-        prices,
-        number::at_most(default.count, Curve::MAX_STEPS),
-        default.start,
-        wide,
-        Curve::MAX_STEPS,
-    );
+    let count = number::at_most(default.count, Curve::MAX_STEPS);
+    put_curve(edges, prices, count, default.start, &default.steps);
 }

@@ -1,9 +1,7 @@
 -- The lines of a curve and their widths, put where both have room.
-use Rattle.std.specs.Prelude.{ℕ, ◌+◌, Bool, ◌&&◌, cond, List, length}
+use Rattle.std.specs.Prelude.{ℕ, ◌+◌, Bool, ◌&&◌, cond, List, length, None, Option, Some}
 use Rattle.std.proofs.lemmas.List.Edits.{sets}
 use Rattle.rules_mitigation.specs.Mitigation.{most_mitigated_steps}
-use Rattle.rules_text.specs.declared.Printed.{Printed}
-use Rattle.rules_text.specs.declared.Printed.TheVariants.{To, Full}
 use Rattle.rules_page.specs.Pages.{curve_bytes, is_room}
 
 -- whether a page has room for a curve's lines, and a list for their widths
@@ -14,5 +12,5 @@ has_both out at widths base = is_room curve_bytes out at && is_room most_mitigat
 unfoldable pub lines_in : Bool → List ℕ → ℕ → List ℕ → List ℕ
 lines_in room l at text = cond room (sets l at text) l
 
-unfoldable pub lines_to : Bool → ℕ → List ℕ → Printed
-lines_to room at text = cond room (To (at + length text)) Full
+unfoldable pub lines_to : Bool → ℕ → List ℕ → Option ℕ
+lines_to room at text = cond room (Some (at + length text)) None

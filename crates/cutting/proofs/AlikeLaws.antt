@@ -1,4 +1,5 @@
 -- Two intervals that say the same of the constraints and of the resources of an hour are refused, judged, cut and written alike. Assumes nothing.
+use Rattle.std.specs.Prelude.{Option}
 use Prim.Native.Nat.{ℕ, zero, suc, ◌+◌, ◌*◌, ◌≤◌, ◌<◌, min}
 use native.Mathlib.Omega.{arith}
 use borrow.Author.Tests.{eqb-true, leb-true, ltb-true}
@@ -15,7 +16,6 @@ use Rattle.rules_number.specs.Over.{those, sum_over, listed}
 use Rattle.rules_number.proofs.OverLaws.{both, all_same, listed_at, listed_same, sum_taken, sum_skipped}
 use Rattle.rules_curve.specs.Refusals.{unless, ◌then◌}
 use Rattle.rules_curve.proofs.CheckLaws.{then_both}
-use Rattle.rules_mitigation.specs.declared.FloorPrice.{FloorPrice}
 use Rattle.rules_interval.specs.declared.Interval.{Interval}
 use Rattle.rules_interval.specs.Intervals.{shadow_at, lmp_at, dispatch_at, available_at, floor_at, factor_at, is_same_count, constraints_good, all_within, factors_good, ranges_good, outputs_good, interval_refusal}
 use Rattle.rules_interval.proofs.IntervalLaws.{in_limits}
@@ -154,7 +154,7 @@ module _ (m : Market) (v w : Interval) (s : Alike m.resources v w) (rows : m.res
   unfolding cuts_by
   cuts_same from zero l h = refl
   cuts_same from (suc n) l h =
-      ap (λ (x : List ℤ). cut_cell from n (cut_of m v n) x) (cuts_same from n l (omega arith)) ∙ ap (λ (x : FloorPrice). cut_cell from n x (cuts_to m w from n l)) (cut_same n (omega arith))
+      ap (λ (x : List ℤ). cut_cell from n (cut_of m v n) x) (cuts_same from n l (omega arith)) ∙ ap (λ (x : Option ℤ). cut_cell from n x (cuts_to m w from n l)) (cut_same n (omega arith))
 
   cause_same : (r : ℕ) → cause_at m v r ≡ cause_at m w r
   unfolding cause_at cause_of

@@ -110,7 +110,7 @@ lists_next verdicts c list k n s h e = go (enters_by (cell verdicts (20 * c))) r
         }
 
 -- what is listed is in range where the interval is
-pub priced : (k : ℕ) (v : Interval) (verdicts : List ℤ) (list : List ℕ) (count : ℕ) → InLimits k v → Lists verdicts v.constraints list count → Priced v.resources v.lmp v.factors v.shadow (take count list) v.parameter
+pub priced : (k : ℕ) (v : Interval) (verdicts : List ℤ) (list : List ℕ) (count : ℕ) → InLimits k v → Lists verdicts v.constraints list count → Priced v (take count list)
 unfolding entering_in
 priced k v verdicts list count limits s =
     let l = take count list in

@@ -1,9 +1,9 @@
 -- The constraints that enter the component as the code lists them, and the component over such a list. proofs/EnteringLaws.antt shows that it is C.
-use Rattle.std.specs.Prelude.{Bool, true, cond, List, [], ◌∷◌, ◌≡◌, ℕ, ◌+◌, ◌*◌, ◌≤◌, ◌<◌, eqb, ltb, ℤ, pos, neg_ℤ, nat_abs, ◌*ℤ◌, get_or, length, take, replicate}
+use Rattle.std.specs.Prelude.{Bool, true, cond, List, [], ◌∷◌, ◌≡◌, ℕ, ◌+◌, ◌*◌, ◌≤◌, ◌<◌, eqb, ltb, ℤ, pos, neg_ℤ, nat_abs, ◌*ℤ◌, get_or, length, take, replicate, Option}
 use Rattle.rules_number.specs.Order.{in_range, nat_of}
 use Rattle.rules_number.specs.Over.{those, sum_over}
-use Rattle.rules_interval.specs.Intervals.{cell}
-use Rattle.rules_mitigation.specs.declared.FloorPrice.{FloorPrice}
+use Rattle.rules_interval.specs.Intervals.{cell, dispatch_at, lmp_at}
+use Rattle.rules_interval.specs.declared.Interval.{Interval}
 use Rattle.rules_hour.specs.Cuts.{cut_from, competitive_price}
 use Rattle.rules_state.specs.Layout.{cause_width}
 use Rattle.rules_state.specs.States.{mark_of, price_of}
@@ -34,20 +34,20 @@ pub record Addable (factors shadow : List ℤ) (l : List ℕ) (r : ℕ) : Type 0
   pub factor : (k : ℕ) → k < length l → nat_abs (cell factors (r * 32 + get_or l k 0)) ≤ 1000000
   pub price : (k : ℕ) → k < length l → nat_abs (cell shadow (get_or l k 0)) ≤ 100000000
 
--- the same of the values that the cuts of n resources take
-pub record Priced (n : ℕ) (lmp factors shadow : List ℤ) (l : List ℕ) (parameter : ℤ) : Type 0 where
-  pub few : n ≤ 64
-  pub addable : (r : ℕ) → r < n → Addable factors shadow l r
-  pub lmp_in : (r : ℕ) → r < n → in_range (neg_ℤ (pos 100000000)) (pos 100000000) (cell lmp r) ≡ true
-  pub parameter_in : in_range (pos 0) (pos 100) parameter ≡ true
+-- the same of the values that the cuts of an interval take
+pub record Priced (v : Interval) (l : List ℕ) : Type 0 where
+  pub few : v.resources ≤ 64
+  pub addable : (r : ℕ) → r < v.resources → Addable v.factors v.shadow l r
+  pub lmp_in : (r : ℕ) → r < v.resources → in_range (neg_ℤ (pos 100000000)) (pos 100000000) (lmp_at v r) ≡ true
+  pub parameter_in : in_range (pos 0) (pos 100) v.parameter ≡ true
 
 -- the cut of resource r
-abbrev pub cut_over : List ℤ → List ℤ → List ℤ → List ℤ → List ℕ → ℤ → ℕ → FloorPrice
-cut_over lmp dispatch factors shadow l parameter r = cut_from (cell dispatch r) (cell lmp r) (component_over factors shadow l r) parameter
+abbrev pub cut_over : Interval → List ℕ → ℕ → Option ℤ
+cut_over v l r = cut_from (dispatch_at v r) (lmp_at v r) (component_over v.factors v.shadow l r) v.parameter
 
--- why resource r of n is cut or not: its cut mark, component, competitive price and floor price; zeros where there is no such resource
-unfoldable pub cause_over : ℕ → List ℤ → List ℤ → List ℤ → List ℤ → List ℕ → ℤ → ℕ → List ℤ
-cause_over n lmp dispatch factors shadow l parameter r =
-    let c = component_over factors shadow l r in
-    let cut = cut_from (cell dispatch r) (cell lmp r) c parameter in
-    cond (ltb r n) (mark_of cut ∷ c ∷ competitive_price (cell lmp r) c ∷ price_of cut ∷ []) (replicate cause_width (pos 0))
+-- why resource r is cut or not: its cut mark, component, competitive price and floor price; zeros where there is no such resource
+unfoldable pub cause_over : Interval → List ℕ → ℕ → List ℤ
+cause_over v l r =
+    let c = component_over v.factors v.shadow l r in
+    let cut = cut_over v l r in
+    cond (ltb r v.resources) (mark_of cut ∷ c ∷ competitive_price (lmp_at v r) c ∷ price_of cut ∷ []) (replicate cause_width (pos 0))

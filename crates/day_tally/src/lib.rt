@@ -3,10 +3,11 @@
 #![tactic(auto)]
 
 ghost use Rattle.std.specs.Prelude.{◌≡◌};
+ghost use Rattle.std.specs.Result.{result_unwrap_or};
 ghost use Rattle.rules_curve.specs.Refusals.{outcome_number};
 ghost use Rattle.rules_designation.specs.Tallies.{held_after, later_than, marks_within, day_refusal, pushed, tally_after, fresh_tally};
 
-use rules_curve::{Outcome, Refusal};
+use rules_curve::Refusal;
 use rules_designation::{Day, Tally};
 
 // The masks with one more in front, and the oldest one gone.
@@ -15,11 +16,7 @@ fn pushed(masks: [u32; Tally::DAYS], mask: u32) -> [u32; Tally::DAYS]
 {
     let mut out = [0u32; Tally::DAYS];
     out[0] = mask;
-    let mut i: usize = 1;
-    while i < Tally::DAYS {
-        out[i] = masks[i - 1];
-        i += 1;
-    }
+    out[1..].copy_from_slice(&masks[..Tally::DAYS - 1]);
     out
 }
 
@@ -27,23 +24,16 @@ fn pushed(masks: [u32; Tally::DAYS], mask: u32) -> [u32; Tally::DAYS]
 fn marks_good(bound: u32, noncompetitive: u32) -> bool
     ensures { result ≡ marks_within bound noncompetitive }
 {
-    if Day::ALL_HOURS < bound {
-        return false;
-    }
-    if Day::ALL_HOURS < noncompetitive {
-        return false;
-    }
-    noncompetitive & bound == noncompetitive
+    bound <= Day::ALL_HOURS
+        && noncompetitive <= Day::ALL_HOURS
+        && noncompetitive & bound == noncompetitive
 }
 
 // Whether a day is above the last accepted one, if there is one.
 fn is_later(days: u32, last: u32, number: u32) -> bool
     ensures { result ≡ later_than days last number }
 {
-    if days == 0 {
-        return true;
-    }
-    last < number
+    days == 0 || last < number
 }
 
 // One more day held, sixty at most.
@@ -58,19 +48,20 @@ fn one_more(days: u32) -> u32
 }
 
 // Whether the tally takes a day, or 25.
-fn checked(tally: Tally, day: Day) -> Outcome
+fn checked(tally: Tally, day: Day) -> Result<(), Refusal>
     ensures { outcome_number result ≡ day_refusal tally day }
 {
     if !is_later(tally.days, tally.last, day.number) {
-        return Outcome::Refused(Refusal::TradingDay);
+        return Err(Refusal::TradingDay);
     }
     if !marks_good(day.bound, day.noncompetitive) {
-        return Outcome::Refused(Refusal::TradingDay);
+        return Err(Refusal::TradingDay);
     }
-    Outcome::Accepted
+    Ok(())
 }
 
 // A tally without a day.
+#[tactic(auto, unfolding(rules_designation::specs::Tallies::fresh_tally))]
 pub fn fresh() -> Tally
     ensures { result ≡ fresh_tally }
 {
@@ -82,53 +73,33 @@ pub fn fresh() -> Tally
     }
 }
 
-// What a day makes of a tally: the tally afterwards, and 25 where the day is refused.
-#[derive(Clone, Copy)]
-pub struct Updated {
-    pub outcome: Outcome,
-    pub tally: Tally,
-}
-
-// The tally with the day, or the very tally where the day is refused.
-fn next(tally: Tally, day: Day) -> Updated
-    ensures number { outcome_number result.outcome ≡ day_refusal tally day }
-    ensures tally { result.tally ≡ tally_after tally day }
+// The tally with the day, or 25.
+fn next(tally: Tally, day: Day) -> Result<Tally, Refusal>
+    ensures number { outcome_number result ≡ day_refusal tally day }
+    ensures tally { result_unwrap_or result tally ≡ tally_after tally day }
 {
-    let outcome = checked(tally, day);
-    let Outcome::Accepted = outcome else {
-        return Updated { outcome, tally };
-    };
-    let bound = tally.bound;
-    let noncompetitive = tally.noncompetitive;
-    let held = Tally {
+    checked(tally, day)?;
+    Ok(Tally {
         days: one_more(tally.days),
         last: day.number,
-        bound: pushed(bound, day.bound),
-        noncompetitive: pushed(noncompetitive, day.noncompetitive),
-    };
-    Updated {
-        outcome,
-        tally: held,
-    }
+        bound: pushed(tally.bound, day.bound),
+        noncompetitive: pushed(tally.noncompetitive, day.noncompetitive),
+    })
 }
 
 // Adds a day to the lent tally, or answers 25 and leaves it as it was.
-pub fn update(tally: &mut Tally, day: Day) -> Outcome
+pub fn update(tally: &mut Tally, day: Day) -> Result<(), Refusal>
     ensures { (outcome_number result ≡ day_refusal tally.old day) × (tally.new ≡ tally_after tally.old day) }
 {
-    let after = next(*tally, day);
-    *tally = after.tally;
-    after.outcome
+    *tally = next(*tally, day)?;
+    Ok(())
 }
 
 // The same for callers that hold a tally of their own: it is lent to `update`, and handed back.
-pub fn with_day(tally: Tally, day: Day) -> Updated
-    ensures { (outcome_number result.outcome ≡ day_refusal tally day) × (result.tally ≡ tally_after tally day) }
+pub fn with_day(tally: Tally, day: Day) -> Result<Tally, Refusal>
+    ensures { (outcome_number result ≡ day_refusal tally day) × (result_unwrap_or result tally ≡ tally_after tally day) }
 {
     let mut held = tally;
-    let outcome = update(&mut held, day);
-    Updated {
-        outcome,
-        tally: held,
-    }
+    update(&mut held, day)?;
+    Ok(held)
 }

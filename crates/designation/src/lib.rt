@@ -14,11 +14,9 @@ use rules_path::Finding;
 pub fn hours_in(masks: [u32; Tally::DAYS]) -> u32
     ensures { result ≡ hours_in masks }
 {
-    let mut sum: u32 = 0;
-    let mut i: usize = 0;
-    while i < Tally::DAYS {
-        sum += number::ones_in(masks[i]);
-        i += 1;
+    let mut sum = 0;
+    for mask in masks {
+        sum += number::ones_in(mask);
     }
     sum
 }
@@ -40,9 +38,7 @@ fn is_competitive(bound: u32, noncompetitive: u32) -> bool
 pub fn designated(tally: Tally) -> Finding
     ensures { result ≡ designation tally }
 {
-    let bound = tally.bound;
-    let noncompetitive = tally.noncompetitive;
-    if is_competitive(hours_in(bound), hours_in(noncompetitive)) {
+    if is_competitive(hours_in(tally.bound), hours_in(tally.noncompetitive)) {
         Finding::Competitive
     } else {
         Finding::NonCompetitive
@@ -53,12 +49,10 @@ pub fn designated(tally: Tally) -> Finding
 fn any_within(findings: &[i64], lo: i64) -> bool
     ensures { result ≡ any_within lo findings.now }
 {
-    let mut i: usize = 0;
-    while i < findings.len() {
-        if number::within(findings[i], lo, 1) {
+    for finding in findings {
+        if number::within(*finding, lo, 1) {
             return true;
         }
-        i += 1;
     }
     false
 }
@@ -67,21 +61,20 @@ fn any_within(findings: &[i64], lo: i64) -> bool
 fn marked_at(hour: usize, test: bool, mask: u32) -> u32
     ensures { result ≡ marked_at hour test mask }
 {
-    if !test {
-        return mask;
+    if test {
+        mask | (1 << number::at_most(hour, Day::HOURS))
+    } else {
+        mask
     }
-    mask | (1 << number::at_most(hour, Day::HOURS))
 }
 
 // The day with an hour's marks, by the findings on the constraint in intervals of that hour: 0 competitive, 1 non-competitive, any other number not binding.
 pub fn marked(day: Day, hour: usize, findings: &[i64]) -> Day
     ensures { result ≡ marked_day day hour (map finding_by findings.now) }
 {
-    let bound = marked_at(hour, any_within(findings, 0), day.bound);
-    let noncompetitive = marked_at(hour, any_within(findings, 1), day.noncompetitive);
     Day {
-        number: day.number,
-        bound,
-        noncompetitive,
+        bound: marked_at(hour, any_within(findings, 0), day.bound),
+        noncompetitive: marked_at(hour, any_within(findings, 1), day.noncompetitive),
+        ..day
     }
 }

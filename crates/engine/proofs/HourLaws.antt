@@ -1,16 +1,21 @@
 -- Laws of the hour that cells stand for: of zeros, an opened hour, and the hour after a call. Assumes nothing.
+use Rattle.std.specs.Prelude.{Result, Ok, Err, ⊤}
+use Rattle.std.specs.Result.{MatchResult, IsErrAnd}
 use mathlib.Core.Bool.{true, false}
-use mathlib.Core.List.{List, [], ◌++◌, flat_map}
+use mathlib.Core.List.{List, [], flat_map}
 use mathlib.Core.Logic.{◌↔◌}
 use mathlib.Core.Path.{◌≡◌, refl, sym, ap, ◌∙◌}
-use Prim.Native.Nat.{ℕ, zero, suc, ◌+◌, ◌≤◌, ◌<◌}
+use Prim.Native.Nat.{ℕ, zero, suc, ◌≤◌, ◌<◌}
 use native.Mathlib.Omega.{arith}
 use lib.IntN.{ℤ, pos}
-use lib.ListN.{length, replicate, length-append, length-replicate}
+use lib.ListN.{length, replicate, length-replicate}
 use lib.Seq.{sets}
+use Rattle.rules_number.specs.Order.{nat_of}
 use Rattle.rules_number.specs.Over.{listed, padded}
 use Rattle.rules_curve.specs.Curves.{blank_curve}
 use Rattle.rules_curve.specs.Demands.{First}
+use Rattle.rules_curve.specs.Refusals.{number_of, outcome_number}
+use Rattle.rules_curve.specs.declared.Refusal.{Refusal}
 use Rattle.rules_interval.specs.declared.Interval.{Interval}
 use Rattle.rules_opening.specs.Conditions.{opening_demands, EachFull}
 use Rattle.rules_opening.specs.Openings.{no_resource, opening_refusal}
@@ -21,7 +26,8 @@ use Rattle.rules_hour.specs.Opened.{fresh_hour, opened_hour, hour_unless}
 use Rattle.rules_hour.proofs.AcceptedOpening.{few}
 use Rattle.rules_pass.specs.Passes.{RealTimeHour, fresh_quarter, turn_refusal, blank_real_time, opened_real_time, interval_after, pass_after}
 use Rattle.rules_library.specs.Slices.{cell_at, if_written}
-use Rattle.rules_state.specs.Calls.{state_after_interval, interval_written, state_after_pass, pass_written}
+use Rattle.rules_state.specs.declared.CallError.{CallError}
+use Rattle.rules_state.specs.Calls.{called_number, state_after_interval, interval_written, state_after_pass, pass_written}
 use Rattle.rules_state.specs.Fits.{Each}
 use Rattle.rules_state.specs.Layout.{most_resources, most_portfolios, state_room, hour_room, verdict_room}
 use Rattle.rules_state.specs.Openings.{opening_in}
@@ -36,6 +42,13 @@ use Rattle.opening_puts.specs.Blocks.{blocks_room, block_numbers, Rooms}
 use Rattle.opening_puts.proofs.BackLaws.{held_opening, opening_back}
 use Rattle.opening_puts.proofs.HeldLaws.{opening_number, opening_same}
 use Rattle.hour_cells.specs.Calls.{refusal_by, written_by}
+
+-- ---- the number of an outcome, by that of a call
+pub by_call : (P : CallError → Refusal → Type 0) → ((e : CallError) (d : Refusal) → P e d → (n : ℕ) → called_number {T = ⊤} (Err e) ≡ pos n → number_of d ≡ n) → (r : Result ⊤ CallError)
+    (s : Result ⊤ Refusal) → MatchResult r (λ x. s ≡ Ok x) (λ e. IsErrAnd s (P e)) → (n : ℕ) → called_number r ≡ pos n → outcome_number s ≡ n
+by_call P each (Ok x) s h n e = ap outcome_number h ∙ ap nat_of e
+by_call P each (Err e) (Ok x) h n q = absurd h
+by_call P each (Err e) (Err d) h n q = each e d h n q
 
 -- ---- cells of zeros
 zeros : (n k : ℕ) → cell_at (replicate n (pos 0)) k ≡ cell_at [] k

@@ -43,6 +43,11 @@ verdicts_back l n fits =
 blank_fits : VerdictFits not_binding
 blank_fits = record { demand = omega arith; left = omega arith; named = omega arith; room = refl; withheld = each_blank Small 16 0 (omega arith) }
 
+-- a refusal has none that binds
+pub none_bind : (n : ℕ) (l : List Verdict) → 0 < n → replicate 32 not_binding ≡ verdicts_unless n l
+none_bind zero l h = absurd (omega arith)
+none_bind (suc n) l h = refl
+
 -- those of a call with number n, 0 only where 13 to 16 don't apply
 pub read_back : (m : Market) (v : Interval) (n : ℕ) → (n ≡ 0 → interval_refusal m.resources v ≡ 0) → (none found : List ℤ) → none ≡ verdicts_cells (replicate 32 not_binding)
     → found ≡ if_accepted n (sets none 0 (judged_cells m v)) none → verdicts_in found ≡ verdicts_unless n (verdicts_of m v)

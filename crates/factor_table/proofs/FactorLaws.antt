@@ -1,8 +1,8 @@
 -- Laws of factors: declared ids, places, the factor of a line, and a row of factors read by a loop. Assumes nothing.
+use Rattle.std.specs.Prelude.{None, Option, Some}
 use Prim.Native.Nat.{ℕ, suc, ◌+◌, ◌*◌, ◌≤◌, ◌<◌}
 use mathlib.Core.Path.{◌≡◌, refl, sym, ap, ◌∙◌}
 use mathlib.Core.List.{List, [], ◌∷◌, map}
-use mathlib.Core.Option.{Option, none, some}
 use mathlib.Core.Bool.{Bool, true, false, cond, ◌&&◌}
 use mathlib.Core.Logic.{⊎_elim}
 use native.Mathlib.Omega.{arith}
@@ -13,6 +13,7 @@ use lib.ListN.{length, length-set}
 use lib.Seq.{sets}
 use lib.IntN.{ℤ, pos, negsuc, nat_abs}
 use lib.Signed.{lt_z}
+use Rattle.std.proofs.lemmas.Option.{none-some, same_Some}
 use Rattle.rules_number.specs.Order.{nat_of, eq_z}
 use Rattle.rules_number.proofs.OrderLaws.{eq_z_true, eq_z_same}
 use Rattle.rules_number.proofs.OverLaws.{never, both, le_or_lt}
@@ -57,38 +58,38 @@ module _ (m r c : ℕ) where
 
 -- ---- the factor of a line
 -- the row of a line of 1 to 8 values
-pub row_of_lem : (which : Option Row → Option Row) (s : List ℕ) (p k : ℕ) → (leb 1 k && leb k 8) ≡ true → row_of which s p k ≡ as_row (p + length (line_at s p)) (which (row k (line_at s p)))
+pub row_of_lem : (m : ℕ) (which : Option Row → Option Row) (s : List ℕ) (p k : ℕ) → (leb 1 k && leb k 8) ≡ true → row_of m which s p k ≡ as_row m (p + length (line_at s p)) (which (row k (line_at s p)))
 unfolding row_of
-row_of_lem which s p k e = rw e refl
+row_of_lem m which s p k e = rw e refl
 
 module _ (suits : Row → Bool) where
-  suits_by : (x y : Row) (b : Bool) → suits y ≡ b → cond b (some y) none ≡ some x → (y ≡ x) × (suits x ≡ true)
+  suits_by : (x y : Row) (b : Bool) → suits y ≡ b → cond b (Some y) None ≡ Some x → (y ≡ x) × (suits x ≡ true)
   suits_by x y true q e = let z : y ≡ x = cc in (z, ap suits (sym z) ∙ q)
   suits_by x y false q e = let z : ◌≡◌ {A = ℕ} 0 1 = cc in absurd (omega arith)
 
   -- a row that suits is there
-  pub suits_of : (o : Option Row) (x : Row) → if_suits suits o ≡ some x → (o ≡ some x) × (suits x ≡ true)
-  suits_of none x e = let z : ◌≡◌ {A = ℕ} 0 1 = cc in absurd (omega arith)
-  suits_of (some y) x e = let h = suits_by x y (suits y) refl e in (ap some h.0, h.1)
+  pub suits_of : (o : Option Row) (x : Row) → if_suits suits o ≡ Some x → (o ≡ Some x) × (suits x ≡ true)
+  suits_of None x e = let z : ◌≡◌ {A = ℕ} 0 1 = cc in absurd (omega arith)
+  suits_of (Some y) x e = let h = suits_by x y (suits y) refl e in (ap Some h.0, h.1)
 
-  pub suited : (o : Option Row) (x : Row) → o ≡ some x → suits x ≡ true → if_suits suits o ≡ some x
+  pub suited : (o : Option Row) (x : Row) → o ≡ Some x → suits x ≡ true → if_suits suits o ≡ Some x
   suited o x e q = rw (e, q) refl
 
-  unsuited_by : (y : Row) (b : Bool) → suits y ≡ b → cond b (some y) none ≡ none → suits y ≡ false
+  unsuited_by : (y : Row) (b : Bool) → suits y ≡ b → cond b (Some y) None ≡ None → suits y ≡ false
   unsuited_by y true q e = let z : ◌≡◌ {A = ℕ} 0 1 = cc in absurd (omega arith)
   unsuited_by y false q e = q
 
   -- one that does not suit fails
-  pub fails : (x : Row) → if_suits suits (some x) ≡ none → suits x ≡ false
+  pub fails : (x : Row) → if_suits suits (Some x) ≡ None → suits x ≡ false
   fails x e = unsuited_by x (suits x) refl e
 
-  pub unsuited : (o : Option Row) (x : Row) → o ≡ some x → suits x ≡ false → if_suits suits o ≡ none
+  pub unsuited : (o : Option Row) (x : Row) → o ≡ Some x → suits x ≡ false → if_suits suits o ≡ None
   unsuited o x e q = rw (e, q) refl
 
   -- none suits
-  pub none_suits : ((x : Row) → suits x ≡ false) → (o : Option Row) → if_suits suits o ≡ none
-  none_suits h none = refl
-  none_suits h (some x) = ap (λ (b : Bool). cond b (some x) none) (h x)
+  pub none_suits : ((x : Row) → suits x ≡ false) → (o : Option Row) → if_suits suits o ≡ None
+  none_suits h None = refl
+  none_suits h (Some x) = ap (λ (b : Bool). cond b (Some x) None) (h x)
 
 -- what a factor is: its ids are declared, and it comes at place i or after it
 pub record Stands (n m i : ℕ) (x : Row) : Type 0 where
@@ -147,31 +148,33 @@ and-false false b e = refl
 
 module _ (r m c : ℕ) where
   -- a line without the id r is no factor of r
-  pub other_row : (o : Option Row) → if_suits (has_id r) o ≡ none → if_suits (is_factor (r + 1) m (place m r c)) o ≡ none
-  other_row none e = refl
-  other_row (some x) e = unsuited (is_factor (r + 1) m (place m r c)) (some x) x refl (other_resource r m c x (fails (has_id r) x e))
+  pub other_row : (o : Option Row) → if_suits (has_id r) o ≡ None → if_suits (is_factor (r + 1) m (place m r c)) o ≡ None
+  other_row None e = refl
+  other_row (Some x) e = unsuited (is_factor (r + 1) m (place m r c)) (Some x) x refl (other_resource r m c x (fails (has_id r) x e))
 
 -- a factor that is there: the values x of its line
 pub record Taken (next : ℕ) (o : Option Row) (f : Factor) : Type 0 where
   pub x : Row
-  pub is : o ≡ some x
+  pub is : o ≡ Some x
   pub constraint : f.constraint ≡ nat_of (cell 1 x)
   pub value : f.value ≡ cell 2 x
   pub after : f.next ≡ next
 
-pub taken : (next : ℕ) (o : Option Row) (f : Factor) → f ≡ as_factor next o → f.ok ≡ true → Taken next o f
-taken next none f e q = never (sym (ap (λ (w : Factor). w.ok) e) ∙ q)
-taken next (some x) f e q = record {
-  x = x;
-  is = refl;
-  constraint = ap (λ (w : Factor). w.constraint) e;
-  value = ap (λ (w : Factor). w.value) e;
-  after = ap (λ (w : Factor). w.next) e;
-}
+pub taken : (next : ℕ) (o : Option Row) (f : Factor) → Some f ≡ as_factor next o → Taken next o f
+taken next None f e = absurd (none-some f (sym e))
+taken next (Some x) f e =
+    let i = same_Some f (record { constraint = nat_of (cell 1 x); value = cell 2 x; next = next }) e in
+    record {
+      x = x;
+      is = refl;
+      constraint = ap (λ (w : Factor). w.constraint) i;
+      value = ap (λ (w : Factor). w.value) i;
+      after = ap (λ (w : Factor). w.next) i;
+    }
 
-pub not_taken : (next : ℕ) (o : Option Row) (f : Factor) → f ≡ as_factor next o → f.ok ≡ false → o ≡ none
-not_taken next none f e q = refl
-not_taken next (some x) f e q = never (sym q ∙ ap (λ (w : Factor). w.ok) e)
+pub not_taken : (next : ℕ) (o : Option Row) → None ≡ as_factor next o → o ≡ None
+not_taken next None e = refl
+not_taken next (Some x) e = absurd (none-some (record { constraint = nat_of (cell 1 x); value = cell 2 x; next = next }) e)
 
 -- factors that are stored leave as many cells
 pub length_stored : (a : List ℤ) (xs : List Row) → length (with_factors a xs) ≡ length a
@@ -191,12 +194,12 @@ module _ (n m : ℕ) where
   abbrev pub Left : ℕ → List ℕ → List Row
   Left i t = run 3 (is_factor n m) up i (lines t)
 
-  left_none : (i : ℕ) (t : List ℕ) → if_suits (is_factor n m i) (row 3 (line t)) ≡ none → Left i t ≡ []
+  left_none : (i : ℕ) (t : List ℕ) → if_suits (is_factor n m i) (row 3 (line t)) ≡ None → Left i t ≡ []
   unfolding run
   left_none i [] e = refl
   left_none i (b ∷ u) e = rw (lines_cons b u, e) refl
 
-  left_more : (i : ℕ) (t : List ℕ) (x : Row) → if_suits (is_factor n m i) (row 3 (line t)) ≡ some x → Left i t ≡ x ∷ Left (up i x) (after t)
+  left_more : (i : ℕ) (t : List ℕ) (x : Row) → if_suits (is_factor n m i) (row 3 (line t)) ≡ Some x → Left i t ≡ x ∷ Left (up i x) (after t)
   unfolding run
   left_more i t x e = rw (lines_some t (row_there (is_factor n m i) 2 x t e), e) refl
 
@@ -217,7 +220,7 @@ module _ (n m : ℕ) where
     pub room : length a ≡ length S
     room = sym (length_stored a (Left (place m r c) t)) ∙ ap length h.stores
 
-    pub stored : if_suits (is_factor n m (place m r c)) (row 3 (line t)) ≡ none → a ≡ S
+    pub stored : if_suits (is_factor n m (place m r c)) (row 3 (line t)) ≡ None → a ≡ S
     unfolding with_factors
     stored e = ap (with_factors a) (sym (left_none (place m r c) t e)) ∙ h.stores
 
@@ -226,7 +229,7 @@ module _ (n m : ℕ) where
       pub fewer : length (lines u) < length (lines t)
       pub below : count < length L
 
-    pub goes : (x : Row) → if_suits (is_factor n m (place m r c)) (row 3 (line t)) ≡ some x → (r' c' : ℕ) → r' ≡ nat_of (cell 0 x) → c' ≡ nat_of (cell 1 x) + 1 → c' ≤ m
+    pub goes : (x : Row) → if_suits (is_factor n m (place m r c)) (row 3 (line t)) ≡ Some x → (r' c' : ℕ) → r' ≡ nat_of (cell 0 x) → c' ≡ nat_of (cell 1 x) + 1 → c' ≤ m
         → (b : List ℤ) → b ≡ with_factor a x → (u : List ℕ) → u ≡ after t → Goes r' c' b u
     unfolding with_factors
     goes x e r' c' er ec w b eb u eu =

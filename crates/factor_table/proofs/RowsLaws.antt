@@ -1,8 +1,8 @@
 -- Laws of the factor table read resource by resource. Assumes nothing.
+use Rattle.std.specs.Prelude.{None, Option, Some}
 use Prim.Native.Nat.{ℕ, suc, ◌+◌, ◌*◌, ◌≤◌}
 use mathlib.Core.Path.{◌≡◌, refl, sym, ap, ◌∙◌}
 use mathlib.Core.List.{List, [], ◌∷◌, ◌++◌}
-use mathlib.Core.Option.{Option, none, some}
 use mathlib.Core.Bool.{Bool, true, false, cond, ◌&&◌}
 use native.Mathlib.Omega.{arith}
 use native.Mathlib.Nat.{mul-le-mul_right}
@@ -64,7 +64,7 @@ module _ (m : ℕ) where
         let d = declared_at b (cell 0 x) h.declared c ∙ lt-ltb (nat_of (cell 0 x)) c (omega arith) in
         rw (d, h.constrained) (le-leb i (place_of m x) f)
 
-    wider : (i : ℕ) (o : Option Row) (x : Row) → if_suits (is_factor b m i) o ≡ some x → if_suits (is_factor c m i) o ≡ some x
+    wider : (i : ℕ) (o : Option Row) (x : Row) → if_suits (is_factor b m i) o ≡ Some x → if_suits (is_factor c m i) o ≡ Some x
     wider i o x e = let h = suits_of (is_factor b m i) o x e in suited (is_factor c m i) o x h.0 (wider_by i x h.1)
 
     last_by : (i : ℕ) → i ≤ place m b 0 → (x : Row) → is_declared c (cell 0 x) ≡ true → is_declared m (cell 1 x) ≡ true → is_factor b m i x ≡ false
@@ -85,20 +85,20 @@ module _ (m : ℕ) where
         same_last (is_declared c (cell 0 x)) (is_declared m (cell 1 x)) (leb i (place_of m x)) (leb (place m b 0) (place_of m x))
         (λ dc dm. last_by i w x dc dm e (is_declared b (cell 0 x)) refl)
 
-    later : (i : ℕ) → i ≤ place m b 0 → (o : Option Row) → if_suits (is_factor b m i) o ≡ none → if_suits (is_factor c m i) o ≡ if_suits (is_factor c m (place m b 0)) o
-    later i w none e = refl
-    later i w (some x) e = ap (λ (t : Bool). cond t (some x) none) (flags i w x (fails (is_factor b m i) x e))
+    later : (i : ℕ) → i ≤ place m b 0 → (o : Option Row) → if_suits (is_factor b m i) o ≡ None → if_suits (is_factor c m i) o ≡ if_suits (is_factor c m (place m b 0)) o
+    later i w None e = refl
+    later i w (Some x) e = ap (λ (t : Bool). cond t (Some x) None) (flags i w x (fails (is_factor b m i) x e))
 
     abbrev Parted : ℕ → List Line → Type 0
     Parted i ls = From c i ls ≡ From b i ls ++ From c (place m b 0) (drop (length (From b i ls)) ls)
 
     parted_by : (i : ℕ) → i ≤ place m b 0 → (l : Line) (ls : List Line) → ((j : ℕ) → j ≤ place m b 0 → Parted j ls) → (o : Option Row) → if_suits (is_factor b m i) (row 3 l) ≡ o → Parted i (l ∷ ls)
     unfolding run
-    parted_by i w l ls ih none e =
+    parted_by i w l ls ih None e =
         let z : From b i (l ∷ ls) ≡ [] = ap (λ (o : Option Row). and_more o (λ x. From b (suc (place_of m x)) ls)) e in
         ap (λ (o : Option Row). and_more o (λ x. From c (suc (place_of m x)) ls)) (later i w (row 3 l) e)
         ∙ sym (ap (λ (xs : List Row). xs ++ From c (place m b 0) (drop (length xs) (l ∷ ls))) z)
-    parted_by i w l ls ih (some x) e =
+    parted_by i w l ls ih (Some x) e =
         let h = stands b m i x (suits_of (is_factor b m i) (row 3 l) x e).1 in
         let q = comes_before m b 0 (nat_of (cell 0 x)) (nat_of (cell 1 x)) h.resource h.constraint in
         let z : From b i (l ∷ ls) ≡ x ∷ From b (suc (place_of m x)) ls = ap (λ (o : Option Row). and_more o (λ x. From b (suc (place_of m x)) ls)) e in

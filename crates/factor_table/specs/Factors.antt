@@ -1,6 +1,5 @@
 -- A line of the factor table, and rows of factors, as the code answers them.
-use Rattle.std.specs.Prelude.{ℕ, suc, ◌+◌, ◌≡◌, List, true, false, length, drop, ℤ, pos}
-use Rattle.std.proofs.Math.Option.{Option, none, some}
+use Rattle.std.specs.Prelude.{ℕ, suc, ◌+◌, ◌≡◌, List, length, drop, ℤ, Option, Some, None}
 use Rattle.rules_number.specs.Order.{nat_of}
 use Rattle.rules_text.specs.Numbers.{Line, Row, lines}
 use Rattle.rules_text.specs.Tables.{cell, run}
@@ -10,9 +9,9 @@ use Rattle.text_tables.specs.declared.Table.{Table}
 use Rattle.factor_table.specs.declared.Factor.{Factor}
 
 -- the factor of a line before the offset `next`, or none
-abbrev pub as_factor : ℕ → Option Row → Factor
-as_factor next none = record { ok = false; constraint = 0; value = pos 0; next = 0 }
-as_factor next (some x) = record { ok = true; constraint = nat_of (cell 1 x); value = cell 2 x; next = next }
+abbrev pub as_factor : ℕ → Option Row → Option Factor
+as_factor next None = None
+as_factor next (Some x) = Some (record { constraint = nat_of (cell 1 x); value = cell 2 x; next = next })
 
 -- the factors of the resources from a to the one before b, of m constraints
 abbrev pub factors_of : ℕ → ℕ → ℕ → List Line → List Row

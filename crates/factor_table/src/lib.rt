@@ -2,7 +2,6 @@
 #![tactic(auto)]
 
 ghost use Rattle.std.specs.Prelude.{◌≡◌, ℕ, ◌+◌, ◌*◌, ◌≤◌, ◌<◌, length, drop, set};
-ghost use Rattle.std.proofs.Math.Option.{none};
 ghost use Rattle.rules_text.specs.Numbers.{lines, row};
 ghost use Rattle.rules_text.specs.Tables.{if_suits};
 ghost use Rattle.rules_text.specs.Offsets.{line_at, bytes_of};
@@ -20,49 +19,33 @@ const ONE_DIGIT: usize = 10;
 // A factor's constraint and value, with the offset of the next line, where a line is one.
 #[derive(Clone, Copy)]
 struct Factor {
-    ok: bool,
     constraint: usize,
     value: i64,
     next: usize,
 }
 
-fn no_factor() -> Factor
-    ensures { result ≡ as_factor 0 none }
-{
-    Factor {
-        ok: false,
-        constraint: 0,
-        value: 0,
-        next: 0,
-    }
-}
-
 // The factor of resource r at an offset, of m constraints, that comes at constraint c or after it.
-fn factor_at(s: &[u8], at: usize, r: usize, m: usize, c: usize) -> Factor
+fn factor_at(s: &[u8], at: usize, r: usize, m: usize, c: usize) -> Option<Factor>
     requires { c ≤ m }
     ensures { result ≡ as_factor (at + length (line_at s.now at)) (if_suits (is_factor (r + 1) m (place m r c)) (row 3 (line_at s.now at))) }
 {
-    let row = ids_triple_at(s, at, r);
-    if !row.ok {
-        return no_factor();
-    }
-    let y = row.second;
+    let row = ids_triple_at(s, at, r)?;
+    let y = row.v[1];
     if y < 0 {
-        return no_factor();
+        return None;
     }
     let constraint = y as u64 as usize;
     if constraint < c {
-        return no_factor();
+        return None;
     }
     if m <= constraint {
-        return no_factor();
+        return None;
     }
-    Factor {
-        ok: true,
+    Some(Factor {
         constraint,
-        value: row.third,
+        value: row.v[2],
         next: row.next,
-    }
+    })
 }
 
 // The cell of a factor, past the array's end where there is no room.
@@ -106,16 +89,13 @@ fn row_into(s: &[u8], at: usize, r: usize, m: usize, cells: &mut [i64]) -> Table
     let mut count = 0;
     let mut next = at;
     let mut c = 0;
-    loop {
-        let f = factor_at(s, next, r, m, c);
-        if !f.ok {
-            return Table { count, next };
-        }
+    while let Some(f) = factor_at(s, next, r, m, c) {
         put_factor(cells, r, f.constraint, f.value);
         count += 1;
         next = f.next;
         c = f.constraint + 1;
     }
+    Table { count, next }
 }
 
 // The factors of the resources from a to the one before b.
@@ -125,12 +105,10 @@ fn rows_into(s: &[u8], at: usize, a: usize, b: usize, m: usize, cells: &mut [i64
 {
     let mut count = 0;
     let mut next = at;
-    let mut r = a;
-    while r < b {
+    for r in a..b {
         let row = row_into(s, next, r, m, cells);
         count += row.count;
         next = row.next;
-        r += 1;
     }
     Table { count, next }
 }

@@ -5,20 +5,19 @@
 ghost use Rattle.std.specs.Prelude.{◌≡◌, ◌≤◌, length};
 ghost use Rattle.rules_gas.specs.Book.{length_of_run, days_rise, run_in, gas_run, run_refusal, book_refusal, gas_number, last_price, price_in_use};
 
-use rules_gas::{GasMarket, GasPrice};
+use rules_gas::GasMarket;
 
 // How many numbers of a list, two for each entry, belong to entries up to a day, before the first later one.
 fn length_to(list: &[u32], day: u32) -> usize
     ensures { (result ≡ length_of_run day list.now) × (result ≤ length list.now) }
 {
-    let mut i: usize = 0;
-    while 2 <= list.len() - i {
-        if day < list[i] {
-            return i;
+    let entries = list.len() / 2;
+    for i in 0..entries {
+        if day < list[2 * i] {
+            return 2 * i;
         }
-        i += 2;
     }
-    i
+    2 * entries
 }
 
 // Whether the days of a list strictly rise.
@@ -29,13 +28,11 @@ fn days_rise(list: &[u32]) -> bool
         return true;
     }
     let mut before = list[0];
-    let mut i: usize = 2;
-    while 2 <= list.len() - i {
-        if list[i] <= before {
+    for i in 1..list.len() / 2 {
+        if list[2 * i] <= before {
             return false;
         }
-        before = list[i];
-        i += 2;
+        before = list[2 * i];
     }
     true
 }
@@ -44,14 +41,10 @@ fn days_rise(list: &[u32]) -> bool
 pub fn run_in(list: &[u32], day: u32) -> &[u32]
     ensures { result.now ≡ run_in day list.now }
 {
-    if list.len() % 2 != 0 {
-        return &list[..0];
+    if list.len() % 2 != 0 || !days_rise(list) {
+        return &[];
     }
-    if !days_rise(list) {
-        return &list[..0];
-    }
-    let n = length_to(list, day);
-    &list[..n]
+    &list[..length_to(list, day)]
 }
 
 // The run of entries up to a trading day, out of the day-ahead list or the real-time list, without copying; empty means 21.
@@ -70,15 +63,11 @@ pub fn run_of<'a>(
 }
 
 // The price of the last entry of a run; none, which is 21, of an empty one.
-pub fn price_of(run: &[u32]) -> GasPrice
+pub fn price_of(run: &[u32]) -> Option<u32>
     ensures price { result ≡ last_price run.now }
     ensures number { gas_number result ≡ run_refusal run.now }
 {
-    let n = run.len();
-    if n == 0 {
-        return GasPrice::Missing;
-    }
-    GasPrice::Is(run[n - 1])
+    run.last().copied()
 }
 
 // The gas price in use on a trading day; none, which is 21, where the run is empty.
@@ -87,7 +76,7 @@ pub fn price_in_use<'a>(
     real_time: &'a [u32],
     market: GasMarket,
     day: u32,
-) -> GasPrice
+) -> Option<u32>
     ensures price { result ≡ price_in_use market day day_ahead.now real_time.now }
     ensures number { gas_number result ≡ book_refusal market day day_ahead.now real_time.now }
 {

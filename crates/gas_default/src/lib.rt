@@ -2,46 +2,40 @@
 #![tactic(auto)]
 
 ghost use Rattle.std.specs.Prelude.{◌≡◌};
+ghost use Rattle.std.specs.Result.{result_unwrap_or};
 ghost use Rattle.rules_curve.specs.Refusals.{outcome_number};
+ghost use Rattle.rules_curve.specs.Curves.{blank_curve};
 ghost use Rattle.rules_gas.specs.Booked.{with_gas, priced_refusal, priced_curve, list_refusal, list_curve, booked_refusal, booked_curve};
 
 use rules_cost::Costs;
-use rules_curve::{Checked, Refusal};
-use rules_gas::{GasMarket, GasPrice};
+use rules_curve::{Curve, Refusal};
+use rules_gas::GasMarket;
 
 // The costs with this gas price.
 fn with_gas(costs: Costs, price: u32) -> Costs
     ensures { result ≡ with_gas costs price }
 {
-    let points = costs.points;
     Costs {
-        count: costs.count,
-        points,
         gas: price as i64,
-        rate: costs.rate,
-        allowance: costs.allowance,
-        om: costs.om,
-        msc: costs.msc,
-        soc: costs.soc,
-        fee: costs.fee,
+        ..costs
     }
 }
 
 // The default curve at a gas price: 21 where there is none, else the lowest of refusals 4 to 8 that applies.
-fn priced(costs: Costs, price: GasPrice) -> Checked
-    ensures number { outcome_number result.outcome ≡ priced_refusal price costs }
-    ensures curve { result.curve ≡ priced_curve price costs }
+fn priced(costs: Costs, price: Option<u32>) -> Result<Curve, Refusal>
+    ensures number { outcome_number result ≡ priced_refusal price costs }
+    ensures curve { result_unwrap_or result blank_curve ≡ priced_curve price costs }
 {
     match price {
-        GasPrice::Is(price) => cost::default_curve(with_gas(costs, price)),
-        GasPrice::Missing => curve::refused(Refusal::GasBook),
+        Some(price) => cost::default_curve(with_gas(costs, price)),
+        None => Err(Refusal::GasBook),
     }
 }
 
 // The default curve with the price that a list has in use on a trading day.
-pub fn default_on(costs: Costs, list: &[u32], day: u32) -> Checked
-    ensures number { outcome_number result.outcome ≡ list_refusal day list.now costs }
-    ensures curve { result.curve ≡ list_curve day list.now costs }
+pub fn default_on(costs: Costs, list: &[u32], day: u32) -> Result<Curve, Refusal>
+    ensures number { outcome_number result ≡ list_refusal day list.now costs }
+    ensures curve { result_unwrap_or result blank_curve ≡ list_curve day list.now costs }
 {
     priced(costs, gas_book::price_of(gas_book::run_in(list, day)))
 }
@@ -53,9 +47,9 @@ pub fn default_curve<'a>(
     real_time: &'a [u32],
     market: GasMarket,
     day: u32,
-) -> Checked
-    ensures number { outcome_number result.outcome ≡ booked_refusal market day day_ahead.now real_time.now costs }
-    ensures curve { result.curve ≡ booked_curve market day day_ahead.now real_time.now costs }
+) -> Result<Curve, Refusal>
+    ensures number { outcome_number result ≡ booked_refusal market day day_ahead.now real_time.now costs }
+    ensures curve { result_unwrap_or result blank_curve ≡ booked_curve market day day_ahead.now real_time.now costs }
 {
     priced(
         costs,

@@ -1,4 +1,6 @@
 -- Laws of the curve of a row in cells, and of what a call on an hour in cells promises. Assumes nothing.
+use Rattle.std.specs.Prelude.{Result, Ok, Err, ⊤}
+use Rattle.std.specs.Result.{MatchResult, IsErrAnd}
 use mathlib.Core.Bool.{Bool, true, false}
 use mathlib.Core.List.{List, [], ◌∷◌}
 use mathlib.Core.Path.{◌≡◌, refl, sym, ap, ◌∙◌}
@@ -19,7 +21,11 @@ use Rattle.rules_hour.specs.Hours.{no_row, row_curve}
 use Rattle.rules_hour.specs.declared.Floor.{Floor}
 use Rattle.rules_pass.specs.Passes.{fresh_quarter}
 use Rattle.rules_pass.specs.declared.Quarter.{Quarter}
-use Rattle.rules_state.specs.Calls.{interval_written}
+use Rattle.rules_curve.specs.Refusals.{outcome_number}
+use Rattle.rules_curve.specs.declared.Refusal.{Refusal}
+use Rattle.rules_state.specs.Calls.{called_number, interval_written}
+use Rattle.rules_state.specs.declared.CallError.{CallError}
+use Rattle.rules_state.specs.declared.CallError.TheVariants.{Refused}
 use Rattle.rules_library.specs.Slices.{if_written}
 use Rattle.rules_state.specs.Layout.{quarter_from, state_room}
 use Rattle.rules_state.specs.States.{standing_in, quarter_in, market_in, quarter_cells}
@@ -69,6 +75,13 @@ pub alike_called : (pass : Bool) (l k : List ℤ) (v w : Interval) → Alike (ma
 unfolding refusal_by written_by
 alike_called true l k v w a n s t h = (h.0 ∙ turn_same v w l a, (h.1.0 ∙ turn_state v w l a, h.1.1 ∙ turn_verdicts_lem v w l a k))
 alike_called false l k v w a n s t h = (h.0 ∙ call_same v w l a, (h.1.0 ∙ call_begins v w l a, h.1.1 ∙ call_verdicts_lem v w l a k))
+
+-- an outcome's number is told with the errors of a call
+pub told : (P : Refusal → CallError → Type 0) → ((e : Refusal) (d : CallError) → P e d → d ≡ Refused e) → (r : Result ⊤ Refusal) (s : Result ⊤ CallError)
+    → MatchResult r (λ x. s ≡ Ok x) (λ e. IsErrAnd s (P e)) → called_number s ≡ pos (outcome_number r)
+told P each (Ok x) s h = ap called_number h
+told P each (Err e) (Ok x) h = absurd h
+told P each (Err e) (Err d) h = ap (λ (q : CallError). called_number {T = ⊤} (Err q)) (each e d h)
 
 -- ---- by the room of the cells
 module _ (pass : Bool) (l k : List ℤ) (v : Interval) where

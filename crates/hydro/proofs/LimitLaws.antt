@@ -1,7 +1,8 @@
 -- What limits that are met say of each value, and the refusal and the curve by whether they are met. Assumes nothing.
+use Rattle.std.specs.Prelude.{List, Err, Ok, Result}
+use Rattle.std.specs.Result.{IsErrAnd, MatchResult}
 use mathlib.Core.Bool.{Bool, true, false}
-use mathlib.Core.List.{List}
-use mathlib.Core.Path.{◌≡◌, refl, sym, subst}
+use mathlib.Core.Path.{◌≡◌, refl, ap}
 use Prim.Native.Nat.{ℕ, ◌≤◌, ◌<◌}
 use native.Mathlib.Nat.{le_refl}
 use native.Mathlib.Omega.{arith}
@@ -13,15 +14,16 @@ use Rattle.rules_number.proofs.Kit.{abs_bd, bd_between}
 use Rattle.rules_curve.specs.Curves.{default_refusal}
 use Rattle.rules_curve.specs.Demands.{Between}
 use Rattle.rules_curve.specs.Refusals.{outcome_number}
-use Rattle.rules_curve.specs.declared.Outcome.{Outcome}
-use Rattle.rules_curve.specs.declared.Outcome.TheVariants.{Refused}
+use Rattle.rules_curve.specs.declared.Curve.{Curve}
+use Rattle.rules_curve.specs.declared.RawCurve.{RawCurve}
 use Rattle.rules_curve.specs.declared.Refusal.{Refusal}
 use Rattle.rules_curve.proofs.RefusalLaws.{refused_number}
-use Rattle.rules_hydro.specs.Hydros.{largest_at, largest_over, hydro_price, hydro_curve, prices_good, limits_good, hydro_refusal, hydro_in}
+use Rattle.rules_hydro.specs.Hydros.{hydro_number, largest_at, largest_over, hydro_curve, prices_good, limits_good, hydro_refusal, hydro_in}
 use Rattle.rules_hydro.specs.Conditions.{Limited}
 use Rattle.rules_hydro.specs.declared.Hydro.{Hydro}
+use Rattle.rules_hydro.specs.declared.HydroRefusal.{HydroRefusal}
+use Rattle.rules_hydro.specs.declared.HydroRefusal.TheVariants as why
 use Rattle.rules_hydro.proofs.Exactly.{limits_exactly, near_price, far_price}
-use Rattle.hydro.specs.Given.{data_in}
 
 module _ (x : Hydro) where
   -- ---- the limits, and the tests of the code
@@ -69,20 +71,22 @@ module _ (x : Hydro) where
     pub far_in : nat_abs (largest_over x.prices x.hubs x.horizon) ≤ 100000000
     far_in = small (far_price x ok)
 
--- ---- 22 and the price don't depend on the quantities
-module _ (low high heat gas : ℤ) (hubs horizon : ℕ) (prices : List ℤ) where
-  pub limits_data : {h g : ℤ} → h ≡ heat → g ≡ gas → limits_good (data_in h g hubs horizon prices) ≡ limits_good (hydro_in low high heat gas hubs horizon prices)
-  unfolding limits_good
-  limits_data a b = rw (a, b)
-
-  pub price_data : {h g : ℤ} → h ≡ heat → g ≡ gas → hydro_price (data_in h g hubs horizon prices) ≡ hydro_price (hydro_in low high heat gas hubs horizon prices)
-  unfolding hydro_price
-  price_data a b = rw (a, b)
-
--- the numbers as they are read
+-- ---- the numbers as they are read
 pub by_fields : {l l' h h' e e' g g' : ℤ} {n m : ℕ} {p : List ℤ} → l ≡ l' → h ≡ h' → e ≡ e' → g ≡ g' → hydro_in l h e g n m p ≡ hydro_in l' h' e' g' n m p
 by_fields a b c d = cc
 
--- ---- a refusal has a number
-pub some_number : {o : Outcome} {r : Refusal} → o ≡ Refused r → 0 < outcome_number o
-some_number {o} {r} e = subst (λ (x : Outcome). 0 < outcome_number x) (sym e) (refused_number r)
+-- ---- a curve's refusal is told as the pack's
+pub told : (P : Refusal → HydroRefusal → Type 0) → ((e : Refusal) (d : HydroRefusal) → P e d → d ≡ why.Curve e) → (r : Result Curve Refusal) (s : Result Curve HydroRefusal)
+    → MatchResult r (λ x. s ≡ Ok x) (λ e. IsErrAnd s (P e)) → hydro_number s ≡ outcome_number r
+told P each (Ok x) s h = ap hydro_number h
+told P each (Err e) (Ok x) h = absurd h
+told P each (Err e) (Err d) h = ap (λ (q : HydroRefusal). hydro_number {T = Curve} (Err q)) (each e d h)
+
+-- a refusal has a number, whatever an accepted call gives
+pub refused_some : (r : HydroRefusal) → 0 < hydro_number {T = RawCurve} (Err r)
+refused_some why.OutsideLimits = omega arith
+refused_some (why.Curve r) = refused_number r
+
+pub same_number : (r : HydroRefusal) → hydro_number {T = RawCurve} (Err r) ≡ hydro_number {T = Curve} (Err r)
+same_number why.OutsideLimits = refl
+same_number (why.Curve r) = refl

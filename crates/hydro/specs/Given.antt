@@ -1,8 +1,7 @@
--- What the private functions are given.
-use Rattle.std.specs.Prelude.{List, ℕ, ℤ, pos}
+-- What a hydro default is made from, with lent prices.
 use Rattle.rules_hydro.specs.Hydros.{hydro_in}
 use Rattle.rules_hydro.specs.declared.Hydro.{Hydro}
+use Rattle.hydro.specs.declared.LentHydro.{LentHydro}
 
--- without the quantities: what 22 and the price are made of
-abbrev pub data_in : ℤ → ℤ → ℕ → ℕ → List ℤ → Hydro
-data_in heat gas hubs horizon prices = hydro_in (pos 0) (pos 0) heat gas hubs horizon prices
+abbrev pub lent_hydro : LentHydro → Hydro
+lent_hydro g = hydro_in g.low g.high g.heat g.gas g.hubs g.horizon g.prices.now

@@ -1,2 +1,2 @@
--- What the private functions are given.
+-- Definitions that the contracts of the crate cite.
 pub mod Given

@@ -2,24 +2,37 @@
 #![tactic(auto)]
 
 ghost use Rattle.std.specs.Prelude.{true, ◌≡◌, ◌≤◌, ◌<◌, pos, nat_abs, ◌*ℤ◌};
+ghost use Rattle.std.specs.Result.{result_unwrap_or};
 ghost use Rattle.rules_number.specs.Ceil.{ceil_div};
 ghost use Rattle.rules_number.specs.Order.{in_range};
 ghost use Rattle.rules_number.specs.Over.{all_to};
 ghost use Rattle.rules_curve.specs.Curves.{no_pack};
-ghost use Rattle.rules_hydro.specs.Hydros.{one_step, hub_price, largest_at, largest_over, gas_floor, hydro_price, is_hub_price, prices_good, limits_good, hydro_refusal, hydro_in, hydro_number, hydro_pack};
-ghost use Rattle.hydro.specs.Given.{data_in};
+ghost use Rattle.rules_hydro.specs.Hydros.{one_step, hub_price, largest_at, largest_over, gas_floor, hydro_price, is_hub_price, prices_good, limits_good, hydro_refusal, hydro_number, hydro_pack};
+ghost use Rattle.hydro.specs.Given.{lent_hydro};
 
-use rules_curve::{Curve, Outcome, RawCurve, RawStep};
-use rules_hydro::{Hydro, HydroDefault, HydroOutcome};
+use rules_curve::{Curve, RawCurve, RawStep};
+use rules_hydro::{Hydro, HydroRefusal};
+
+// What a hydro default is made from, with lent prices: HUB_PRICES numbers of each hub in turn, and a number past the end of the slice is 0.
+#[derive(Clone, Copy)]
+pub struct LentHydro<'a> {
+    pub low: i64,
+    pub high: i64,
+    pub heat: i64,
+    pub gas: i64,
+    pub hubs: usize,
+    pub horizon: usize,
+    pub prices: &'a [i64],
+}
 
 // The number of an outcome: 0 where nothing is refused.
-pub fn outcome_number(outcome: HydroOutcome) -> u64
+pub fn outcome_number(outcome: Result<(), HydroRefusal>) -> u64
     ensures { result ≡ hydro_number outcome }
 {
     match outcome {
-        HydroOutcome::Accepted => 0,
-        HydroOutcome::OutsideLimits => 22,
-        HydroOutcome::Refused(refusal) => curve::refusal_number(refusal),
+        Ok(()) => 0,
+        Err(HydroRefusal::OutsideLimits) => 22,
+        Err(HydroRefusal::Curve(refusal)) => curve::refusal_number(refusal),
     }
 }
 
@@ -28,8 +41,7 @@ fn hub_good(prices: &[i64], hub: usize, n: usize) -> bool
     requires { (hub < 4) × (n ≤ 14) }
     ensures { result ≡ all_to (λ j. is_hub_price (hub_price prices.now hub j)) n }
 {
-    let mut j: usize = 0;
-    while j < n {
+    for j in 0..n {
         if !number::within(
             cells::cell_at(prices, hub * Hydro::HUB_PRICES + j),
             0,
@@ -37,7 +49,6 @@ fn hub_good(prices: &[i64], hub: usize, n: usize) -> bool
         ) {
             return false;
         }
-        j += 1;
     }
     true
 }
@@ -47,12 +58,10 @@ fn prices_good(prices: &[i64], hubs: usize, horizon: usize) -> bool
     requires { (hubs ≤ 4) × (horizon ≤ 12) }
     ensures { result ≡ prices_good prices.now hubs horizon }
 {
-    let mut i: usize = 0;
-    while i < hubs {
+    for i in 0..hubs {
         if !hub_good(prices, i, horizon + 2) {
             return false;
         }
-        i += 1;
     }
     true
 }
@@ -63,13 +72,11 @@ fn largest_at(prices: &[i64], hub: usize, n: usize) -> i64
     ensures { result ≡ largest_at prices.now hub n }
 {
     let mut largest = cells::cell_at(prices, hub * Hydro::HUB_PRICES);
-    let mut j: usize = 0;
-    while j <= n {
+    for j in 0..n + 1 {
         largest = number::max(
             largest,
             cells::cell_at(prices, hub * Hydro::HUB_PRICES + j + 1),
         );
-        j += 1;
     }
     largest
 }
@@ -80,37 +87,35 @@ fn largest_over(prices: &[i64], hubs: usize, horizon: usize) -> i64
     ensures { result ≡ largest_over prices.now hubs horizon }
 {
     let mut largest = largest_at(prices, 0, horizon);
-    let mut i: usize = 0;
-    while i + 1 < hubs {
-        largest = number::max(largest, largest_at(prices, i + 1, horizon));
-        i += 1;
+    for i in 1..hubs {
+        largest = number::max(largest, largest_at(prices, i, horizon));
     }
     largest
 }
 
 // Whether no value calls for 22. Counts are tested before the prices that they count.
-fn limits_good(heat: i64, gas: i64, hubs: usize, horizon: usize, prices: &[i64]) -> bool
-    ensures { result ≡ limits_good (data_in heat gas hubs horizon prices.now) }
+fn limits_good(given: &LentHydro) -> bool
+    ensures { result ≡ limits_good (lent_hydro given.now) }
 {
-    if !number::within(heat, 1, Hydro::MAX_HEAT) {
+    if !number::within(given.heat, 1, Hydro::MAX_HEAT) {
         return false;
     }
-    if !number::within(gas, 0, Hydro::MAX_GAS) {
+    if !number::within(given.gas, 0, Hydro::MAX_GAS) {
         return false;
     }
-    if hubs < 1 {
+    if given.hubs < 1 {
         return false;
     }
-    if Hydro::MAX_HUBS < hubs {
+    if Hydro::MAX_HUBS < given.hubs {
         return false;
     }
-    if horizon < 1 {
+    if given.horizon < 1 {
         return false;
     }
-    if Hydro::MAX_HORIZON < horizon {
+    if Hydro::MAX_HORIZON < given.horizon {
         return false;
     }
-    prices_good(prices, hubs, horizon)
+    prices_good(given.prices, given.hubs, given.horizon)
 }
 
 // 11 × H × gas / 10,000, up.
@@ -130,13 +135,13 @@ fn tenths(n: i64, price: i64) -> i64
 }
 
 // The price: the largest of the three amounts.
-fn price(heat: i64, gas: i64, hubs: usize, horizon: usize, prices: &[i64]) -> i64
-    requires { limits_good (data_in heat gas hubs horizon prices.now) ≡ true }
-    ensures { result ≡ hydro_price (data_in heat gas hubs horizon prices.now) }
+fn price(given: &LentHydro) -> i64
+    requires { limits_good (lent_hydro given.now) ≡ true }
+    ensures { result ≡ hydro_price (lent_hydro given.now) }
 {
-    let floor = gas_floor(heat, gas);
-    let short = tenths(14, largest_at(prices, 0, 1));
-    let long = tenths(11, largest_over(prices, hubs, horizon));
+    let floor = gas_floor(given.heat, given.gas);
+    let short = tenths(14, largest_at(given.prices, 0, 1));
+    let long = tenths(11, largest_over(given.prices, given.hubs, given.horizon));
     number::max(floor, number::max(short, long))
 }
 
@@ -153,63 +158,31 @@ fn one_step(low: i64, high: i64, price: i64) -> RawCurve
     }
 }
 
-// A refusal alone: the curve has no step.
-fn refused(outcome: HydroOutcome) -> HydroDefault
-    ensures number { hydro_number result.outcome ≡ hydro_number outcome }
-    ensures pack { result.pack ≡ no_pack }
-{
-    HydroDefault {
-        outcome,
-        pack: RawCurve {
-            start: 0,
-            count: 0,
-            steps: [RawStep { end: 0, price: 0 }; Curve::MAX_STEPS],
-        },
-    }
-}
-
 // The hydro default: one step from the lowest to the highest quantity, as opening takes it from a pack; or 22, or 2 where the quantities are no edges of a step.
-// `prices` holds HUB_PRICES numbers of each hub in turn, and numbers past its end count as 0.
-pub fn default_over(
-    low: i64,
-    high: i64,
-    heat: i64,
-    gas: i64,
-    hubs: usize,
-    horizon: usize,
-    prices: &[i64],
-) -> HydroDefault
-    ensures number { hydro_number result.outcome ≡ hydro_refusal (hydro_in low high heat gas hubs horizon prices.now) }
-    ensures pack { result.pack ≡ hydro_pack (hydro_in low high heat gas hubs horizon prices.now) }
+pub fn default_over(given: &LentHydro) -> Result<RawCurve, HydroRefusal>
+    ensures number { hydro_number result ≡ hydro_refusal (lent_hydro given.now) }
+    ensures pack { result_unwrap_or result no_pack ≡ hydro_pack (lent_hydro given.now) }
 {
-    if !limits_good(heat, gas, hubs, horizon, prices) {
-        return refused(HydroOutcome::OutsideLimits);
+    if !limits_good(given) {
+        return Err(HydroRefusal::OutsideLimits);
     }
-    let pack = one_step(low, high, price(heat, gas, hubs, horizon, prices));
-    let checked = curve_checks::checked_default(pack);
-    let outcome = checked.outcome;
-    match outcome {
-        Outcome::Accepted => HydroDefault {
-            outcome: HydroOutcome::Accepted,
-            pack,
-        },
-        Outcome::Refused(refusal) => refused(HydroOutcome::Refused(refusal)),
-    }
+    let pack = one_step(given.low, given.high, price(given));
+    curve_checks::checked_default(pack).map_err(HydroRefusal::Curve)?;
+    Ok(pack)
 }
 
 // The same of a record.
-pub fn default_curve(hydro: Hydro) -> HydroDefault
-    ensures number { hydro_number result.outcome ≡ hydro_refusal hydro }
-    ensures pack { result.pack ≡ hydro_pack hydro }
+pub fn default_curve(hydro: Hydro) -> Result<RawCurve, HydroRefusal>
+    ensures number { hydro_number result ≡ hydro_refusal hydro }
+    ensures pack { result_unwrap_or result no_pack ≡ hydro_pack hydro }
 {
-    let prices = hydro.prices;
-    default_over(
-        hydro.low,
-        hydro.high,
-        hydro.heat,
-        hydro.gas,
-        hydro.hubs,
-        hydro.horizon,
-        &prices,
-    )
+    default_over(&LentHydro {
+        low: hydro.low,
+        high: hydro.high,
+        heat: hydro.heat,
+        gas: hydro.gas,
+        hubs: hydro.hubs,
+        horizon: hydro.horizon,
+        prices: &hydro.prices,
+    })
 }

@@ -5,21 +5,20 @@
 use engine::Hour;
 use rules_cost::{Costs, Point};
 use rules_curve::{Curve, RawCurve, RawStep};
-use rules_hydro::{Hydro, HydroOutcome};
+use rules_hydro::{Hydro, HydroRefusal};
 use rules_interval::Interval;
 use rules_mitigation::Mitigated;
 use rules_opening::{Opening, Resource, Source};
 use std::io;
 
 // A line for the pack's answer: the refusal's number, or 0.
-fn print_outcome(rt: &impl Print, outcome: HydroOutcome) -> io::Result<()> {
-    println!(rt; "hydro {}", hydro::outcome_number(outcome))
+fn print_answer(rt: &impl Print, answer: Result<RawCurve, HydroRefusal>) -> io::Result<()> {
+    println!(rt; "hydro {}", hydro::outcome_number(answer.map(|_| ())))
 }
 
 // A line for a curve: how many steps it has, then end and price of the first two.
 fn print_curve(rt: &impl Print, c: Mitigated) -> io::Result<()> {
-    let first = c.steps[0];
-    let second = c.steps[1];
+    let [first, second, ..] = c.steps;
     println!(rt;
         "curve {} {} {} {} {}",
         c.count,
@@ -40,11 +39,11 @@ fn hydro_unit(heat: i64) -> Hydro {
     Hydro {
         low: 10_000,
         high: 30_000,
-        heat: heat,
+        heat,
         gas: 40_000,
         hubs: 1,
         horizon: 1,
-        prices: prices,
+        prices,
     }
 }
 
@@ -62,7 +61,7 @@ fn bid() -> RawCurve {
     RawCurve {
         start: 10_000,
         count: 2,
-        steps: steps,
+        steps,
     }
 }
 
@@ -88,14 +87,14 @@ fn opening(pack: RawCurve) -> Opening {
         bid: bid(),
         source: Source::Pack,
         costs: no_costs(),
-        pack: pack,
+        pack,
     };
     let mut sellers = [0i64; 16];
     sellers[0] = 1;
     Opening {
         month: 25,
         portfolios: 1,
-        sellers: sellers,
+        sellers,
         resources: 1,
         list: [unit; 64],
     }
@@ -115,28 +114,30 @@ fn interval() -> Interval {
     factors[0] = -500_000;
     Interval {
         constraints: 1,
-        shadow: shadow,
+        shadow,
         resources: 1,
-        lmp: lmp,
-        dispatch: dispatch,
-        available: available,
+        lmp,
+        dispatch,
+        available,
         floor: [0; 64],
-        factors: factors,
+        factors,
         parameter: 100,
     }
 }
 
 fn main(rt: HostRuntime) -> io::Result<()> {
-    let refused = hydro::default_curve(hydro_unit(0));
-    let outcome = refused.outcome;
-    print_outcome(&rt, outcome)?;
+    print_answer(&rt, hydro::default_curve(hydro_unit(0)))?;
     let default = hydro::default_curve(hydro_unit(10_000));
-    let outcome = default.outcome;
-    print_outcome(&rt, outcome)?;
-    let opened = Hour::open(opening(default.pack));
-    let hour = opened.hour;
+    print_answer(&rt, default)?;
+    let Ok(pack) = default else {
+        return Ok(());
+    };
+    let Ok(hour) = Hour::open(opening(pack)) else {
+        return Ok(());
+    };
     print_curve(&rt, hour.curve(0))?;
-    let answer = hour.interval(interval());
-    let next = answer.hour;
-    print_curve(&rt, next.curve(0))
+    let Ok(answer) = hour.interval(interval()) else {
+        return Ok(());
+    };
+    print_curve(&rt, answer.hour.curve(0))
 }

@@ -19,19 +19,8 @@ use Rattle.rules_state.specs.Intervals.{outputs_in}
 use Rattle.rules_state.specs.Takes.{if_accepted}
 use Rattle.interval.specs.Over.{interval_over}
 use Rattle.cutting.proofs.AlikeLaws.{Alike}
-use Rattle.interval_part.specs.Shown.{next_if}
-use Rattle.interval_part.specs.Taken.{Seen, PartRead, answered}
-use Rattle.interval_part.specs.declared.Part.{Part}
+use Rattle.interval_part.specs.Taken.{Seen, answered}
 use Rattle.interval_part.specs.declared.PartTaken.{PartTaken}
-use Rattle.interval_part.proofs.ReadLaws.{no_next}
-
--- the answer of a faulty line, and what is to be read, whatever the cells hold
-pub refused : (s : List ℕ) (r : Part) (f : ℕ) → r.fault ≡ f → (f ≡ 0 → ⊥) → (R : Reading Interval) → R ≡ faulty f → (j k : ℕ) (w : Interval) → PartRead j k s r w R
-refused s r f e h R q j k w = record { fails = λ n. q ∙ ap faulty (sym e); whole = λ z. absurd (h (sym e ∙ z)) }
-
--- a fault has no offset after it
-pub no_offset : (r : Part) (f : ℕ) → r.fault ≡ f → r.next ≡ 0 → (f ≡ 0 → ⊥) → (at k : ℕ) (ls : List Line) → r.next ≡ next_if r.fault at k ls
-no_offset r f e z h at k ls = z ∙ no_next f at k ls h ∙ ap (λ (n : ℕ). next_if n at k ls) (sym e)
 
 -- ---- factors stored in k cells are the first k of those stored in 2048
 take_set : (k : ℕ) (a : List ℤ) (i : ℕ) (x : ℤ) → take k (set a i x) ≡ set (take k a) i x

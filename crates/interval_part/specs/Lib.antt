@@ -1,3 +1,2 @@
 -- Definitions that the contracts of the crate cite.
-pub mod Shown
 pub mod Taken

@@ -1,8 +1,9 @@
 -- What the code's answers stand for, and what taking an interval's part does.
-use Rattle.std.specs.Prelude.{ℕ, zero, suc, ◌+◌, ◌-◌, ◌*◌, ◌<◌, Bool, cond, List, [], ◌≡◌, leb, ℤ, length, drop, take}
+use Rattle.std.specs.Prelude.{ℕ, zero, suc, ◌+◌, ◌-◌, ◌*◌, ◌<◌, Bool, cond, List, [], ◌≡◌, leb, ℤ, length, drop, take, Result, Ok, Err}
 use Rattle.std.proofs.lemmas.List.Edits.{sets}
 use Rattle.rules_interval.specs.Intervals.{lmp_at, dispatch_at, available_at, floor_at}
 use Rattle.rules_interval.specs.declared.Interval.{Interval}
+use Rattle.interval.specs.Over.{interval_over}
 use Rattle.rules_hour.specs.Hours.{call_refusal}
 use Rattle.rules_text.specs.Numbers.{Line, lines}
 use Rattle.rules_text.specs.Tables.{Reading, faulty, found}
@@ -11,13 +12,14 @@ use Rattle.rules_state.specs.Layout.{rows_from}
 use Rattle.rules_state.specs.States.{standing_in, market_in}
 use Rattle.rules_state.specs.Takes.{if_accepted, standing_written}
 use Rattle.rules_state.specs.Verdicts.{judged_cells}
-use Rattle.interval_part.specs.Shown.{reading}
 use Rattle.interval_part.specs.declared.Value.{Value}
 use Rattle.interval_part.specs.declared.Part.{Part}
 use Rattle.interval_part.specs.declared.PartTaken.{PartTaken}
 
-abbrev pub shown_value : List ℕ → Value → Reading ℤ
-shown_value s r = reading s r.fault r.value r.line r.next
+-- the value that is found, up to its line, with the next line at an offset of the text; or the faulty line
+abbrev pub shown_value : List ℕ → Result Value ℕ → Reading ℤ
+shown_value s (Ok v) = found v.value v.line (lines (drop v.next s))
+shown_value s (Err line) = faulty line
 
 -- ---- a part whose tables are put into cells
 -- the interval w of j cells of outputs and k of factors is v, as far as there are cells
@@ -38,10 +40,10 @@ pub record Whole (j k : ℕ) (due : Reading Interval) (w : Interval) (line : ℕ
   pub is : due ≡ found v line rest
   pub same : Seen j k w v
 
--- a part with the interval of its tables, and what is to be read: its faulty line, or so much of it
-pub record PartRead (j k : ℕ) (s : List ℕ) (r : Part) (w : Interval) (due : Reading Interval) : Type 0 where
-  pub fails : (r.fault ≡ 0 → ⊥) → due ≡ faulty r.fault
-  pub whole : r.fault ≡ 0 → Whole j k due w r.line (lines (drop r.next s))
+-- a part with its tables in cells, and what is to be read: so much of it, or its faulty line
+abbrev pub PartRead : (j k : ℕ) → List ℕ → Result Part ℕ → List ℤ → List ℤ → List ℤ → Reading Interval → Type 0
+PartRead j k s (Ok p) shadow outputs factors due = Whole j k due (interval_over p.constraints shadow p.resources outputs factors p.parameter) p.line (lines (drop p.next s))
+PartRead j k s (Err line) shadow outputs factors due = due ≡ faulty line
 
 -- ---- a part that is read, taken in the hour of the cells `state`
 -- the number that refuses an interval, 0 where it is accepted

@@ -1,10 +1,8 @@
 -- Lines of a page put once more at a later place, each with another first byte.
-use Rattle.std.specs.Prelude.{ℕ, ◌+◌, Bool, ◌&&◌, cond, List, [], ◌∷◌, leb, pos, length, take, drop, set}
+use Rattle.std.specs.Prelude.{ℕ, ◌+◌, Bool, ◌&&◌, cond, List, [], ◌∷◌, leb, pos, length, take, drop, set, None, Option, Some}
 use Rattle.std.proofs.lemmas.List.Edits.{sets}
 use Rattle.rules_text.specs.Numbers.{Row}
 use Rattle.rules_text.specs.Printing.{line_text}
-use Rattle.rules_text.specs.declared.Printed.{Printed}
-use Rattle.rules_text.specs.declared.Printed.TheVariants.{To, Full}
 
 -- how wide the line of a row is, in group c of a table of interval i
 abbrev pub width_of : ℕ → ℕ → Row → ℕ
@@ -28,5 +26,5 @@ unfoldable pub with_lines : List ℕ → ℕ → ℕ → ℕ → List ℕ → �
 with_lines page from at n widths base d = cond (is_later page from at n) (sets page at (lines_again page from n widths base d)) page
 
 -- the offset after them
-unfoldable pub lines_to : List ℕ → ℕ → ℕ → ℕ → Printed
-lines_to page from at n = cond (is_later page from at n) (To (at + n)) Full
+unfoldable pub lines_to : List ℕ → ℕ → ℕ → ℕ → Option ℕ
+lines_to page from at n = cond (is_later page from at n) (Some (at + n)) None

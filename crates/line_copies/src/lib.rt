@@ -6,34 +6,18 @@ ghost use Rattle.std.specs.Prelude.{◌≡◌, ◌+◌, ◌≤◌, length, take,
 ghost use Rattle.std.proofs.lemmas.List.Edits.{sets};
 ghost use Rattle.line_copies.specs.Lines.{headed, with_lines, lines_to};
 
-use rules_text::Printed;
-
-// Puts the n bytes at an offset again at a later one, past their end.
-fn copy_bytes(page: &mut [u8], from: usize, at: usize, n: usize)
-    requires { (from + n ≤ at) × (at + n ≤ length page.old) }
-    ensures { page.new ≡ sets page.old at (take n (drop from page.old)) }
-{
-    let mut k: usize = 0;
-    while k < n {
-        page[at + k] = page[from + k];
-        k += 1;
-    }
-}
-
 // Sets the first byte of each line in the n bytes at an offset. Their widths stand from an index on.
 fn put_heads(page: &mut [u8], at: usize, n: usize, widths: &[u8], base: usize, first: u8)
     requires { at + n ≤ length page.old }
     ensures { page.new ≡ sets page.old at (headed first 0 (drop base widths.now) (take n (drop at page.old))) }
 {
     let mut p: usize = 0;
-    let mut k = base;
-    while k < widths.len() {
+    for k in base..widths.len() {
         if n <= p {
             return;
         }
         page[at + p] = first;
         p += widths[k] as usize;
-        k += 1;
     }
 }
 
@@ -46,18 +30,14 @@ pub fn copy_lines(
     widths: &[u8],
     base: usize,
     first: u8,
-) -> Printed
+) -> Option<usize>
     ensures page { page.new ≡ with_lines page.old from at n widths.now base first }
     ensures next { result ≡ lines_to page.old from at n }
 {
-    if !number::has_room(at, from, n) {
-        return Printed::Full;
+    if !number::has_room(at, from, n) || !number::has_room(page.len(), at, n) {
+        return None;
     }
-    if !number::has_room(page.len(), at, n) {
-        return Printed::Full;
-    }
-    let next = at + n;
-    copy_bytes(page, from, at, n);
+    page.copy_within(from..from + n, at);
     put_heads(page, at, n, widths, base, first);
-    Printed::To(next)
+    Some(at + n)
 }

@@ -25,19 +25,16 @@ fn curve_in(state: &[i64], from: usize) -> Curve
     requires { from ≤ state_room }
     ensures { result ≡ curve_in_cells state.now from }
 {
-    let count = cells::whole_at(state, from) as usize;
-    let start = cells::whole_at(state, from + 1);
     let mut steps = [Step { end: 0, price: 0 }; Curve::MAX_STEPS];
-    let mut k: usize = 0;
-    while k < Curve::MAX_STEPS {
-        let end = cells::whole_at(state, from + 2 + k);
-        let price = cells::cell_at(state, from + 2 + Curve::MAX_STEPS + k);
-        steps[k] = Step { end, price };
-        k += 1;
+    for (k, step) in steps.iter_mut().enumerate() {
+        *step = Step {
+            end: cells::whole_at(state, from + 2 + k),
+            price: cells::cell_at(state, from + 2 + Curve::MAX_STEPS + k),
+        };
     }
     Curve {
-        start,
-        count,
+        start: cells::whole_at(state, from + 1),
+        count: cells::whole_at(state, from) as usize,
         steps,
     }
 }

@@ -1,7 +1,7 @@
 // Reads a text from standard input, and writes what running it prints to standard output.
 #![tactic(auto)]
 
-// Runs standard input in the lent arrays.
+// Runs standard input in the lent arrays. Apart from main: tried there, the proof did not close over arrays of this length.
 fn run_in(
     rt: &HostRuntime,
     text: &mut [u8; streams::TEXT_ROOM],

@@ -16,7 +16,7 @@ use Rattle.rules_curve.proofs.CheckLaws.{bid_at_lem}
 use Rattle.rules_mitigation.specs.Mitigation.{segments, joined}
 use Rattle.mitigation.proofs.Walk.{rest_of, rest_skip, rest_default, rest_bid}
 use Rattle.rules_library.specs.Slices.{cell_at}
-use Rattle.rules_state.specs.States.{curve_in_cells, cell_of}
+use Rattle.rules_state.specs.States.{curve_in_cells}
 use Rattle.mitigated_cells.proofs.PutLaws.{Reached, put_next, Ended, put_ended}
 
 -- ---- a curve in cells
@@ -52,63 +52,58 @@ module _ (st : List ℤ) (from : ℕ) where
   bid_step_at k h = bid_at_lem (curve_in_cells st from) k h ∙ steps_at k (omega (arith, bid_length))
 
 -- ---- the walk
-pub record Walking (f : ℤ → ℤ → ℤ) (bs ds : List Step) (start : ℕ) (e₀ p₀ ends prices : List ℤ) (at : ℕ) (last : ℤ) (i j n : ℕ) : Type 0 where
+pub record Walking (f : ℤ → ℤ → ℤ) (bs ds : List Step) (start : ℕ) (s₀ now : List Step) (at : ℕ) (last : ℤ) (i j n : ℕ) : Type 0 where
   pub few : n ≤ i + j
   pub in_bid : i ≤ length bs
   pub in_default : j ≤ length ds
-  pub ends_long : length ends ≡ length e₀
-  pub prices_long : length prices ≡ length p₀
-  pub reached : Reached (joined (segments f start bs ds)) e₀ p₀ ends prices last n (rest_of f bs ds at i j)
+  pub long : length now ≡ length s₀
+  pub reached : Reached (joined (segments f start bs ds)) s₀ now last n (rest_of f bs ds at i j)
 
-module _ (f : ℤ → ℤ → ℤ) (bs ds : List Step) (start : ℕ) (e₀ p₀ : List ℤ) where
-  pub walking_start : (last : ℤ) → Walking f bs ds start e₀ p₀ e₀ p₀ start last 0 0 0
+module _ (f : ℤ → ℤ → ℤ) (bs ds : List Step) (start : ℕ) (s₀ : List Step) where
+  pub walking_start : (last : ℤ) → Walking f bs ds start s₀ s₀ start last 0 0 0
   walking_start last = record {
     few = omega arith;
     in_bid = omega arith;
     in_default = omega arith;
-    ends_long = refl;
-    prices_long = refl;
-    reached = inl (record { none = refl; ends_same = refl; prices_same = refl; left = rw (sub-zero (length bs), sub-zero (length ds)) });
+    long = refl;
+    reached = inl (record { none = refl; same = refl; left = rw (sub-zero (length bs), sub-zero (length ds)) });
   }
 
-  module _ (ends prices : List ℤ) (at : ℕ) (last : ℤ) (i j n : ℕ) (w : Walking f bs ds start e₀ p₀ ends prices at last i j n) where
-    pub walking_ended : rest_of f bs ds at i j ≡ [] → Ended (joined (segments f start bs ds)) e₀ p₀ ends prices n
+  module _ (now : List Step) (at : ℕ) (last : ℤ) (i j n : ℕ) (w : Walking f bs ds start s₀ now at last i j n) where
+    pub walking_ended : rest_of f bs ds at i j ≡ [] → Ended (joined (segments f start bs ds)) s₀ now n
     walking_ended e = put_ended (rw e at w.reached)
 
     module _ (b d : Step) (hi : i < length bs) (hj : j < length ds) (eb : get_or bs i blank_step ≡ b) (ed : get_or ds j blank_step ≡ d) where
-      pub walking_skip : d.end ≤ at → Walking f bs ds start e₀ p₀ ends prices at last i (j + 1) n
+      pub walking_skip : d.end ≤ at → Walking f bs ds start s₀ now at last i (j + 1) n
       walking_skip h = record {
         few = omega (arith, w.few);
         in_bid = w.in_bid;
         in_default = omega arith;
-        ends_long = w.ends_long;
-        prices_long = w.prices_long;
+        long = w.long;
         reached = rw (rest_skip f bs ds at i j blank_step b d hi hj eb ed h) at w.reached;
       }
 
       module _ (k to : ℕ) (p : ℤ) (is : p ≡ f b.price d.price) (h : at < d.end)
-          (ends' prices' : List ℤ) (put-end : ends' ≡ set ends k (cell_of to)) (put-price : prices' ≡ set prices k p)
+          (now' : List Step) (put : now' ≡ set now k (step_to to p))
           (first : n ≡ 0 → k ≡ 0) (same : 0 < n → last ≡ p → k + 1 ≡ n) (other : 0 < n → eq_z last p ≡ false → k ≡ n) (most : k ≤ n) where
-        pub walking_default : d.end < b.end → to ≡ d.end → Walking f bs ds start e₀ p₀ ends' prices' to p i (j + 1) (k + 1)
+        pub walking_default : d.end < b.end → to ≡ d.end → Walking f bs ds start s₀ now' to p i (j + 1) (k + 1)
         walking_default l e =
             let r : rest_of f bs ds at i j ≡ step_to to p ∷ rest_of f bs ds to i (j + 1) = rw (e, is) (rest_default f bs ds at i j blank_step b d hi hj eb ed h l) in
             record {
               few = omega (arith, w.few);
               in_bid = w.in_bid;
               in_default = omega arith;
-              ends_long = ap length put-end ∙ length-set ends k (cell_of to) ∙ w.ends_long;
-              prices_long = ap length put-price ∙ length-set prices k p ∙ w.prices_long;
-              reached = rw (put-end, put-price) (put_next (step_to to p) (rest_of f bs ds to i (j + 1)) k (rw r at w.reached) first same other);
+              long = ap length put ∙ length-set now k (step_to to p) ∙ w.long;
+              reached = rw put (put_next (step_to to p) (rest_of f bs ds to i (j + 1)) k (rw r at w.reached) first same other);
             }
 
-        pub walking_bid : b.end ≤ d.end → to ≡ b.end → Walking f bs ds start e₀ p₀ ends' prices' to p (i + 1) j (k + 1)
+        pub walking_bid : b.end ≤ d.end → to ≡ b.end → Walking f bs ds start s₀ now' to p (i + 1) j (k + 1)
         walking_bid l e =
             let r : rest_of f bs ds at i j ≡ step_to to p ∷ rest_of f bs ds to (i + 1) j = rw (e, is) (rest_bid f bs ds at i j blank_step b d hi hj eb ed h l) in
             record {
               few = omega (arith, w.few);
               in_bid = omega arith;
               in_default = w.in_default;
-              ends_long = ap length put-end ∙ length-set ends k (cell_of to) ∙ w.ends_long;
-              prices_long = ap length put-price ∙ length-set prices k p ∙ w.prices_long;
-              reached = rw (put-end, put-price) (put_next (step_to to p) (rest_of f bs ds to (i + 1) j) k (rw r at w.reached) first same other);
+              long = ap length put ∙ length-set now k (step_to to p) ∙ w.long;
+              reached = rw put (put_next (step_to to p) (rest_of f bs ds to (i + 1) j) k (rw r at w.reached) first same other);
             }

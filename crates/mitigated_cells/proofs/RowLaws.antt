@@ -1,4 +1,5 @@
 -- The present curve of a resource, by the cells of its row and of its floor price. Assumes nothing.
+use Rattle.std.specs.Prelude.{Option}
 use mathlib.Core.List.{List, []}
 use mathlib.Core.Logic.{⊎_elim}
 use mathlib.Core.Path.{◌≡◌, sym, ap, ap₂, ◌∙◌}
@@ -15,7 +16,6 @@ use Rattle.rules_curve.specs.declared.Curve.{Curve}
 use Rattle.rules_curve.specs.declared.Step.{Step}
 use Rattle.rules_mitigation.specs.Mitigation.{capped, segments, segments_n, joined, mitigated, mitigated_of, mitigated_steps, most_mitigated_steps, used_steps}
 use Rattle.rules_mitigation.proofs.SegmentLaws.{segments_length, joined_length}
-use Rattle.rules_mitigation.specs.declared.FloorPrice.{FloorPrice}
 use Rattle.rules_opening.specs.declared.Row.{Row}
 use Rattle.rules_hour.specs.Hours.{no_row, uncut, row_curve, curve_in}
 use Rattle.rules_hour.specs.declared.Floor.{Floor}
@@ -30,7 +30,7 @@ used_all : (s : ℕ) (l : List Step) → used_steps (mitigated_of s l) ≡ l
 unfolding padded
 used_all s l = take-append_seam l _
 
-pub used_mitigated : (k : FloorPrice) (b d : Curve) → used_steps (mitigated k b d) ≡ mitigated_steps k b d
+pub used_mitigated : (k : Option ℤ) (b d : Curve) → used_steps (mitigated k b d) ≡ mitigated_steps k b d
 unfolding mitigated
 used_mitigated k b d = used_all b.start (mitigated_steps k b d)
 

@@ -1,23 +1,22 @@
-// The present curve of a resource (paper 01, Interval and hour; 31.2.3, 34.1.5), from the hour that a lent slice of numbers stands for, put into lent arrays of
-// numbers: the end of each step, and its price. The contracts cite the definitions of rules_mitigation and rules_state.
+// The present curve of a resource (paper 01, Interval and hour; 31.2.3, 34.1.5), from the hour that a lent slice of numbers stands for, put into a lent
+// array of steps. The contracts cite the definitions of rules_mitigation and rules_state.
 #![tactic(auto)]
 
-ghost use Rattle.std.specs.Prelude.{◌≡◌, true, false, map, ◌+◌, ◌≤◌, ◌<◌, min as least, length, set};
+ghost use Rattle.std.specs.Prelude.{◌≡◌, true, false, ◌+◌, ◌≤◌, ◌<◌, min as least, length};
 ghost use Rattle.std.proofs.lemmas.List.Edits.{sets};
 ghost use Rattle.rules_number.specs.Order.{nat_of, eq_z};
 ghost use Rattle.rules_curve.specs.Curves.{bid_steps};
 ghost use Rattle.rules_mitigation.specs.Mitigation.{capped, joined, mitigated_steps, most_mitigated_steps, used_steps};
-ghost use Rattle.rules_mitigation.specs.declared.FloorPrice.TheVariants.{Uncut};
 ghost use Rattle.rules_hour.specs.Hours.{curve_in};
 ghost use Rattle.rules_library.specs.Slices.{cell_at};
 ghost use Rattle.rules_state.specs.Layout.{curve_room, room_of_row};
-ghost use Rattle.rules_state.specs.States.{cell_of, floor_of, curve_in_cells, hour_in};
+ghost use Rattle.rules_state.specs.States.{floor_of, curve_in_cells, hour_in};
 
-use rules_curve::Curve;
+use rules_curve::{Curve, Step};
 use rules_interval::Interval;
 use rules_mitigation::Mitigated;
 
-// The number at an index that lies in the slice.
+// The number at an index that lies in the slice: with no test, unlike cells::cell_at, as the curve of each resource is read at each interval.
 fn cell_in(state: &[i64], k: usize) -> i64
     requires { k < length state.now }
     ensures { result ≡ cell_at state.now k }
@@ -64,48 +63,22 @@ fn place(n: usize, last: i64, price: i64) -> usize
     if last == price { n - 1 } else { n }
 }
 
-fn nearer(a: u64, b: u64) -> u64
-    ensures { result ≡ least a b }
-{
-    if a < b { a } else { b }
-}
-
-// A whole number as a cell: the largest number of 63 bits where it is larger.
-fn cell_of(n: u64) -> i64
-    ensures { result ≡ cell_of n }
-{
-    if n < 9_223_372_036_854_775_807 {
-        return n as i64;
-    }
-    9_223_372_036_854_775_807
-}
-
-// Puts the step at an index.
-fn put_step(ends: &mut [i64], prices: &mut [i64], k: usize, end: u64, price: i64)
-    requires { (k < length ends.old) × (k < length prices.old) }
-    ensures ends { ends.new ≡ set ends.old k (cell_of end) }
-    ensures prices { prices.new ≡ set prices.old k price }
-{
-    ends[k] = cell_of(end);
-    prices[k] = price;
-}
-
 // Puts the steps of the bid of a row, divided where a step of its default curve ends, each part at its cut price, neighbours with one price as one, and answers
 // how many they are.
-fn put_steps(row: &[i64], mark: i64, floor: i64, ends: &mut [i64], prices: &mut [i64]) -> usize
-    requires { (room_of_row ≤ length row.now) × (most_mitigated_steps ≤ length ends.old) × (most_mitigated_steps ≤ length prices.old) }
+fn put_steps(row: &[i64], mark: i64, floor: i64, steps: &mut [Step]) -> usize
+    requires { (room_of_row ≤ length row.now) × (most_mitigated_steps ≤ length steps.old) }
     ensures count { result ≡ length (mitigated_steps (floor_of mark floor).price (curve_in_cells row.now 0) (curve_in_cells row.now curve_room)) }
-    ensures ends { ends.new ≡ sets ends.old 0 (map (λ s. cell_of s.end) (mitigated_steps (floor_of mark floor).price (curve_in_cells row.now 0) (curve_in_cells row.now curve_room))) }
-    ensures prices { prices.new ≡ sets prices.old 0 (map (λ s. s.price) (mitigated_steps (floor_of mark floor).price (curve_in_cells row.now 0) (curve_in_cells row.now curve_room))) }
+    ensures steps { steps.new ≡ sets steps.old 0 (mitigated_steps (floor_of mark floor).price (curve_in_cells row.now 0) (curve_in_cells row.now curve_room)) }
 {
     let default = rules_state::CURVE_ROOM;
     let bids = count_in(row, 0, Curve::MAX_BID_STEPS);
     let defaults = count_in(row, default, Curve::MAX_STEPS);
     let mut at = whole_in(row, 1);
     let mut last: i64 = 0;
+    let mut n: usize = 0;
+    // By index: the bid and its default curve are walked at strides of their own.
     let mut i: usize = 0;
     let mut j: usize = 0;
-    let mut n: usize = 0;
     while i < bids {
         if defaults <= j {
             return n;
@@ -119,8 +92,8 @@ fn put_steps(row: &[i64], mark: i64, floor: i64, ends: &mut [i64], prices: &mut 
             let cost = cell_in(row, default + 2 + Curve::MAX_STEPS + j);
             let price = cap(mark, floor, bid, cost);
             let k = place(n, last, price);
-            at = nearer(d, b);
-            put_step(ends, prices, k, at, price);
+            at = d.min(b);
+            steps[k] = Step { end: at, price };
             last = price;
             n = k + 1;
             if d < b {
@@ -136,7 +109,7 @@ fn put_steps(row: &[i64], mark: i64, floor: i64, ends: &mut [i64], prices: &mut 
 // Whether the bid of a row lies under the last end of its default curve, so that no part of it is left out.
 fn is_under(row: &[i64]) -> bool
     requires { room_of_row ≤ length row.now }
-    ensures { result ≡ true → mitigated_steps Uncut (curve_in_cells row.now 0) (curve_in_cells row.now curve_room) ≡ joined (bid_steps (curve_in_cells row.now 0)) }
+    ensures { result ≡ true → mitigated_steps None (curve_in_cells row.now 0) (curve_in_cells row.now curve_room) ≡ joined (bid_steps (curve_in_cells row.now 0)) }
 {
     let default = rules_state::CURVE_ROOM;
     let bids = count_in(row, 0, Curve::MAX_BID_STEPS);
@@ -146,66 +119,54 @@ fn is_under(row: &[i64]) -> bool
     }
     let top = whole_in(row, default + 1 + defaults);
     let mut at = whole_in(row, 1);
-    let mut i: usize = 0;
-    while i < bids {
+    for i in 0..bids {
         if top <= at {
             return false;
         }
         at = whole_in(row, 2 + i);
-        i += 1;
     }
     at <= top
 }
 
 // Puts the steps of the bid of a row, neighbours with one price as one, and answers how many they are.
-fn put_bid(row: &[i64], ends: &mut [i64], prices: &mut [i64]) -> usize
-    requires { (room_of_row ≤ length row.now) × (most_mitigated_steps ≤ length ends.old) × (most_mitigated_steps ≤ length prices.old) }
+fn put_bid(row: &[i64], steps: &mut [Step]) -> usize
+    requires { (room_of_row ≤ length row.now) × (most_mitigated_steps ≤ length steps.old) }
     ensures count { result ≡ length (joined (bid_steps (curve_in_cells row.now 0))) }
-    ensures ends { ends.new ≡ sets ends.old 0 (map (λ s. cell_of s.end) (joined (bid_steps (curve_in_cells row.now 0)))) }
-    ensures prices { prices.new ≡ sets prices.old 0 (map (λ s. s.price) (joined (bid_steps (curve_in_cells row.now 0)))) }
+    ensures steps { steps.new ≡ sets steps.old 0 (joined (bid_steps (curve_in_cells row.now 0))) }
 {
     let bids = count_in(row, 0, Curve::MAX_BID_STEPS);
     let mut last: i64 = 0;
-    let mut i: usize = 0;
     let mut n: usize = 0;
-    while i < bids {
+    for i in 0..bids {
         let end = whole_in(row, 2 + i);
         let price = cell_in(row, 2 + Curve::MAX_STEPS + i);
         let k = place(n, last, price);
-        put_step(ends, prices, k, end, price);
+        steps[k] = Step { end, price };
         last = price;
         n = k + 1;
-        i += 1;
     }
     n
 }
 
 // Puts the steps of the present curve of a row, and answers how many they are. A bid that was never cut isn't divided.
-fn put_row(row: &[i64], mark: i64, floor: i64, ends: &mut [i64], prices: &mut [i64]) -> usize
-    requires { (room_of_row ≤ length row.now) × (most_mitigated_steps ≤ length ends.old) × (most_mitigated_steps ≤ length prices.old) }
+fn put_row(row: &[i64], mark: i64, floor: i64, steps: &mut [Step]) -> usize
+    requires { (room_of_row ≤ length row.now) × (most_mitigated_steps ≤ length steps.old) }
     ensures count { result ≡ length (mitigated_steps (floor_of mark floor).price (curve_in_cells row.now 0) (curve_in_cells row.now curve_room)) }
-    ensures ends { ends.new ≡ sets ends.old 0 (map (λ s. cell_of s.end) (mitigated_steps (floor_of mark floor).price (curve_in_cells row.now 0) (curve_in_cells row.now curve_room))) }
-    ensures prices { prices.new ≡ sets prices.old 0 (map (λ s. s.price) (mitigated_steps (floor_of mark floor).price (curve_in_cells row.now 0) (curve_in_cells row.now curve_room))) }
+    ensures steps { steps.new ≡ sets steps.old 0 (mitigated_steps (floor_of mark floor).price (curve_in_cells row.now 0) (curve_in_cells row.now curve_room)) }
 {
     if mark != 0 {
-        return put_steps(row, mark, floor, ends, prices);
+        return put_steps(row, mark, floor, steps);
     }
     if is_under(row) {
-        return put_bid(row, ends, prices);
+        return put_bid(row, steps);
     }
-    put_steps(row, mark, floor, ends, prices)
+    put_steps(row, mark, floor, steps)
 }
 
 // Puts the steps of the present curve of resource r, and answers how many they are: none where there is no such resource.
-pub fn mitigated_into(
-    state: &[i64],
-    r: usize,
-    ends: &mut [i64; Mitigated::MAX_STEPS],
-    prices: &mut [i64; Mitigated::MAX_STEPS],
-) -> usize
+pub fn mitigated_into(state: &[i64], r: usize, steps: &mut [Step; Mitigated::MAX_STEPS]) -> usize
     ensures count { result ≡ length (used_steps (curve_in (hour_in state.now).hour r)) }
-    ensures ends { ends.new ≡ sets ends.old 0 (map (λ s. cell_of s.end) (used_steps (curve_in (hour_in state.now).hour r))) }
-    ensures prices { prices.new ≡ sets prices.old 0 (map (λ s. s.price) (used_steps (curve_in (hour_in state.now).hour r))) }
+    ensures steps { steps.new ≡ sets steps.old 0 (used_steps (curve_in (hour_in state.now).hour r)) }
 {
     if Interval::MAX_RESOURCES <= r {
         return 0;
@@ -214,9 +175,9 @@ pub fn mitigated_into(
     let mark = cells::cell_at(state, 1 + r);
     let floor = cells::cell_at(state, 1 + Interval::MAX_RESOURCES + r);
     if from + rules_state::ROW_ROOM <= state.len() {
-        return put_row(&state[from..], mark, floor, ends, prices);
+        return put_row(&state[from..], mark, floor, steps);
     }
     let mut row = [0i64; rules_state::ROW_ROOM];
     cell_copies::fill(&mut row, state, from);
-    put_row(&row, mark, floor, ends, prices)
+    put_row(&row, mark, floor, steps)
 }

@@ -6,52 +6,43 @@ ghost use Rattle.rules_curve.specs.Curves.{steps_of, bid_steps, quote};
 ghost use Rattle.rules_mitigation.specs.Mitigation.{lowered as loweredBy};
 ghost use Rattle.rules_mitigation.specs.Mitigation.{most_mitigated_steps, used_steps, capped, segments, joined, mitigated_of, mitigated};
 
-use rules_curve::{Curve, Quote, Step};
-use rules_mitigation::{FloorPrice, Mitigated};
+use rules_curve::{Curve, Step};
+use rules_mitigation::Mitigated;
 
 // The price b, cut to the higher of the default price d and the floor price.
-fn cap(floor: FloorPrice, b: i64, d: i64) -> i64
+fn cap(floor: Option<i64>, b: i64, d: i64) -> i64
     ensures { result ≡ capped floor b d }
 {
     match floor {
-        FloorPrice::Uncut => b,
-        FloorPrice::Cut(l) => number::min(b, number::max(d, l)),
+        None => b,
+        Some(l) => number::min(b, number::max(d, l)),
     }
 }
 
 // The lowest floor price after a further cut, or after none.
-pub fn lowered(floor: FloorPrice, cut: FloorPrice) -> FloorPrice
+pub fn lowered(floor: Option<i64>, cut: Option<i64>) -> Option<i64>
     ensures { result ≡ loweredBy floor cut }
 {
-    match cut {
-        FloorPrice::Uncut => floor,
-        FloorPrice::Cut(l) => match floor {
-            FloorPrice::Uncut => FloorPrice::Cut(l),
-            FloorPrice::Cut(k) => FloorPrice::Cut(number::min(k, l)),
-        },
+    match (floor, cut) {
+        (_, None) => floor,
+        (None, Some(l)) => Some(l),
+        (Some(k), Some(l)) => Some(number::min(k, l)),
     }
 }
 
 // The bid, divided where a default step ends, each part at its cut price.
-fn divided(bid: Curve, default: Curve, floor: FloorPrice) -> Mitigated
+fn divided(bid: Curve, default: Curve, floor: Option<i64>) -> Mitigated
     ensures { result ≡ mitigated_of bid.start (segments (capped floor) bid.start (bid_steps bid) (steps_of default)) }
 {
     let nb = curve::bid_used(bid);
     let nd = curve::used(default);
-    let start = bid.start;
     let mut steps = [Step { end: 0, price: 0 }; Mitigated::MAX_STEPS];
-    let mut at = start;
+    let mut at = bid.start;
     let mut i: usize = 0;
     let mut j: usize = 0;
     let mut n: usize = 0;
-    while i < nb {
-        if nd <= j {
-            return Mitigated {
-                start: start,
-                count: n,
-                steps: steps,
-            };
-        }
+    // By two indices: each turn moves on in the bid or in its default curve.
+    while i < nb && j < nd {
         let b = bid.steps[i];
         let d = default.steps[j];
         if d.end <= at {
@@ -72,9 +63,9 @@ fn divided(bid: Curve, default: Curve, floor: FloorPrice) -> Mitigated
         }
     }
     Mitigated {
-        start: start,
+        start: bid.start,
         count: n,
-        steps: steps,
+        steps,
     }
 }
 
@@ -82,12 +73,7 @@ fn divided(bid: Curve, default: Curve, floor: FloorPrice) -> Mitigated
 fn used(curve: Mitigated) -> usize
     ensures { (result ≡ length (used_steps curve)) × (result ≤ most_mitigated_steps) }
 {
-    let n = curve.count;
-    if n < Mitigated::MAX_STEPS {
-        n
-    } else {
-        Mitigated::MAX_STEPS
-    }
+    curve.count.min(Mitigated::MAX_STEPS)
 }
 
 // Neighbouring steps with one price are merged.
@@ -95,49 +81,42 @@ fn merged(curve: Mitigated) -> Mitigated
     ensures { result ≡ mitigated_of curve.start (joined (used_steps curve)) }
 {
     let used = used(curve);
-    let start = curve.start;
     let mut steps = [Step { end: 0, price: 0 }; Mitigated::MAX_STEPS];
     if used == 0 {
         return Mitigated {
-            start: start,
+            start: curve.start,
             count: 0,
-            steps: steps,
+            steps,
         };
     }
     let mut last = curve.steps[0];
-    let mut i: usize = 1;
     let mut n: usize = 0;
-    while i < used {
-        let s = curve.steps[i];
-        if last.price == s.price {
-            last = s;
-            i += 1;
-        } else {
+    for i in 1..used {
+        let step = curve.steps[i];
+        if last.price != step.price {
             steps[n] = last;
             n += 1;
-            last = s;
-            i += 1;
         }
+        last = step;
     }
     steps[n] = last;
     Mitigated {
-        start: start,
+        start: curve.start,
         count: n + 1,
-        steps: steps,
+        steps,
     }
 }
 
 // The curve of a bid: each quantity at the smaller of its bid price and the higher of its default price and the floor price, if any.
-pub fn mitigated_curve(bid: Curve, default: Curve, floor: FloorPrice) -> Mitigated
+pub fn mitigated_curve(bid: Curve, default: Curve, floor: Option<i64>) -> Mitigated
     ensures { result ≡ mitigated floor bid default }
 {
     merged(divided(bid, default, floor))
 }
 
 // The price of a quantity.
-pub fn price_at(curve: Mitigated, q: u64) -> Quote
+pub fn price_at(curve: Mitigated, q: u64) -> Option<i64>
     ensures { result ≡ quote curve.start (used_steps curve) q }
 {
-    let steps = curve.steps;
-    curve::price_among(curve.start, curve.count, steps, q)
+    curve::price_among(curve.start, &curve.steps[..used(curve)], q)
 }

@@ -2,29 +2,15 @@
 use Prim.Native.Nat.{ℕ, zero, suc}
 use mathlib.Core.Path.{◌≡◌, refl, sym, ap, subst, ◌∙◌}
 use mathlib.Core.Bool.{Bool, true, false}
-use mathlib.Core.List.{List, [], ◌∷◌}
+use mathlib.Core.List.{List}
 use lib.IntN.{ℤ}
-use lib.ListN.{get_or}
 use lib.Seq.{sets}
-use Rattle.rules_number.specs.Over.{padded}
-use Rattle.rules_curve.specs.Curves.{blank_curve}
-use Rattle.rules_mitigation.specs.Mitigation.{mitigated, segments_n, joined}
 use Rattle.rules_mitigation.specs.declared.Mitigated.{Mitigated}
-use Rattle.rules_opening.specs.Resources.{blank_row}
-use Rattle.rules_opening.specs.declared.Row.{Row}
-use Rattle.rules_hour.specs.Hours.{no_row, row_curve, curve_in}
-use Rattle.rules_hour.specs.declared.Floor.{Floor}
+use Rattle.rules_hour.specs.Hours.{curve_in}
 use Rattle.rules_pass.specs.Passes.{RealTimeHour}
 use Rattle.rules_hour_bid.specs.HourBids.{hour_bid_refusal, hour_bid_in, hour_bid_of, mitigated_unless}
 use Rattle.rules_library.specs.Slices.{answer_of, if_written}
 use Rattle.rules_state.specs.Curves.{mitigated_edges, mitigated_prices, edges_by, prices_by}
-
--- a blank row has the curve of none
-pub row_same : (l : List Row) (r : ℕ) (k : Floor) → row_curve (get_or l r blank_row) k ≡ row_curve (get_or l r no_row) k
-unfolding mitigated blank_curve padded segments_n joined
-row_same [] r k = refl
-row_same (x ∷ l) zero k = refl
-row_same (x ∷ l) (suc r) k = row_same l r k
 
 -- the bid for the hour, where the hour is full
 pub hour_bid_is : (h : RealTimeHour) (r : ℕ) → hour_bid_refusal h ≡ 0 → curve_in h.hour r ≡ hour_bid_of h r

@@ -10,25 +10,19 @@ ghost use Rattle.rules_library.specs.Slices.{answer_of};
 ghost use Rattle.rules_state.specs.Layout.{state_room};
 ghost use Rattle.rules_state.specs.Curves.{mitigated_room, edges_by, prices_by, curve_answer, curve_edges, curve_prices, five_minute_edges, five_minute_prices, hour_bid_answer, hour_bid_edges, hour_bid_prices, default_of_answer, default_of_edges, default_of_prices};
 
-use rules_curve::Curve;
+use rules_curve::{Curve, Refusal};
 use rules_hour::Standing;
 use rules_mitigation::Mitigated;
 
 // The number of the refusal of a bid for an hour that is still open.
-const HOUR_OPEN: i64 = 20;
+const HOUR_OPEN: i64 = Refusal::HourOpen as i64;
 
 // Whether slices of these lengths hold an hour, the edges of a curve of so many steps, and its prices.
 fn has_room(state: usize, edges: usize, prices: usize, steps: usize) -> bool
     requires { steps ≤ most_mitigated_steps }
     ensures { result ≡ (leb state_room state && (leb (2 + steps) edges && leb steps prices)) }
 {
-    if state < rules_state::STATE_ROOM {
-        return false;
-    }
-    if edges < 2 + steps {
-        return false;
-    }
-    steps <= prices
+    rules_state::STATE_ROOM <= state && 2 + steps <= edges && steps <= prices
 }
 
 // Puts a mitigated curve, where the hour is full enough for it: else 20.
@@ -116,8 +110,6 @@ pub extern "C" fn noskjerf_default_of(
     if !has_room(state.len(), edges.len(), prices.len(), Curve::MAX_STEPS) {
         return -1;
     }
-    let row = market_cells::row_in(state, r);
-    let default = row.default;
-    curve_cells::put_default(edges, prices, default);
+    curve_cells::put_default(edges, prices, market_cells::row_in(state, r).default);
     0
 }

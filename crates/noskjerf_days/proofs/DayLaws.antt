@@ -1,11 +1,14 @@
 -- A tally in 122 numbers: how the code puts it, and what the calls answer. Assumes nothing.
-use mathlib.Core.List.{List, [], map-id}
+use mathlib.Core.List.{List, [], ◌++◌}
 use mathlib.Core.Path.{◌≡◌, refl, sym, ap, ap₂, ◌∙◌}
-use Prim.Native.Nat.{ℕ, ◌+◌, ◌≤◌, ◌<◌}
+use Prim.Native.Nat.{ℕ, ◌+◌, ◌-◌, ◌≤◌, ◌<◌}
 use native.Mathlib.Omega.{arith}
 use lib.IntN.{ℤ, pos, negsuc}
-use lib.ListN.{length, get_or, set, length-set}
-use lib.Seq.{sets}
+use lib.ListN.{length, set, take, drop, length-set, length-take, length-drop}
+use lib.Seq.{sets, sets-eq, take_all, get_or-take, get_or-drop}
+use borrow.Rule.Slice.PartMut.{put_mid}
+use Rattle.std.proofs.lemmas.Slice.{put_mid-paste}
+use Rattle.rules_number.proofs.ListedLaws.{listed_is}
 use Rattle.rules_text.proofs.ListLaws.{sets_append}
 use Rattle.rules_path.specs.Verdicts.{finding_number}
 use Rattle.rules_path.specs.declared.Finding.{Finding}
@@ -15,22 +18,25 @@ use Rattle.rules_designation.specs.declared.Day.{Day}
 use Rattle.rules_designation.specs.declared.Tally.{Tally}
 use Rattle.rules_state.specs.Calls.{holds}
 use Rattle.cells.proofs.AnswerLaws as answers
-use Rattle.cells.proofs.PutLaws.{Left, begins, goes_on, ends}
-use Rattle.rules_designation.specs.Calls.{tally_room, tally_in, tally_cells, day_answer, cells_after, designation_answer, hours_after}
+use Rattle.rules_designation.specs.Calls.{tally_room, mask_in, masks_in, tally_in, tally_cells, day_answer, cells_after, designation_answer, hours_after}
 use Rattle.rules_designation.proofs.CallAnswers.{designation_told}
 
-module _ (start : List ℕ) (from : ℕ) (l : List ℕ) where
-  abbrev pub Putting : List ℕ → ℕ → Type 0
-  Putting out i = Left (λ x. x) l start from out i
+-- sixty numbers from an index on
+pub part_is : (cells : List ℕ) (from : ℕ) → from + 60 ≤ length cells → take (from + 60 - from) (drop from cells) ≡ masks_in cells from
+unfolding masks_in
+part_is cells from h =
+    let n : from + 60 - from ≡ 60 = omega arith in
+    let part = drop from cells in
+    ap (λ (i : ℕ). take i part) n
+    ∙ listed_is 0 (take 60 part) (mask_in cells from) 60 (omega (arith, length-take 60 part, length-drop from cells))
+    (λ k l. get_or-take 60 part k 0 l ∙ get_or-drop from cells k 0)
 
-  pub putting_begins : Putting start 0
-  putting_begins = begins (λ x. x) l start from
-
-  pub putting_goes_on : (out : List ℕ) (i : ℕ) → Putting out i → i < length l → Putting (set out (from + i) (get_or l i 0)) (i + 1)
-  putting_goes_on out i e h = goes_on (λ x. x) l start from 0 out i _ (get_or l i 0) e h refl refl
-
-  pub putting_ends : (out : List ℕ) (i : ℕ) → Putting out i → length l ≤ i → out ≡ sets start from l
-  putting_ends out i e h = ends (λ x. x) l start from out i e h ∙ ap (sets start from) (map-id l)
+-- the same put back
+pub part_put : (cells : List ℕ) (from : ℕ) (new masks : List ℕ) → new ≡ masks → length masks ≡ 60 → from + 60 ≤ length cells → put_mid from (from + 60 - from) cells new ≡ sets cells from masks
+part_put cells from new masks e n h =
+    put_mid-paste from (from + 60 - from) cells new masks 60 e (omega arith) (sym n)
+    ∙ ap (λ (l : List ℕ). take from cells ++ l ++ drop (from + 60) cells) (take_all 60 masks (omega (arith, n)))
+    ∙ ap (λ (k : ℕ). take from cells ++ masks ++ drop (from + k) cells) (sym n) ∙ sym (sets-eq masks cells from (omega (arith, n)))
 
 -- a tally is put: its first two numbers, and the masks of each kind
 abbrev begun : List ℕ → ℕ → ℕ → List ℕ

@@ -6,7 +6,6 @@ ghost use Rattle.std.specs.Prelude.{◌≡◌, ◌+◌, ◌≤◌, length};
 ghost use Rattle.std.proofs.lemmas.List.Edits.{sets};
 ghost use Rattle.rules_designation.specs.Calls.{tally_room, masks_in, tally_in, tally_cells, day_of, day_answer, cells_after, designation_answer, hours_after, mark_answer, marks_after};
 
-use rules_curve::Outcome;
 use rules_designation::{BOUND_FROM, Day, NONCOMPETITIVE_FROM, TALLY_ROOM, Tally};
 
 // Sixty masks from an index on.
@@ -15,11 +14,7 @@ fn masks_in(cells: &[u32], from: usize) -> [u32; Tally::DAYS]
     ensures { result ≡ masks_in cells.now from }
 {
     let mut masks = [0u32; Tally::DAYS];
-    let mut i: usize = 0;
-    while i < Tally::DAYS {
-        masks[i] = cells[from + i];
-        i += 1;
-    }
+    masks.copy_from_slice(&cells[from..from + Tally::DAYS]);
     masks
 }
 
@@ -28,13 +23,11 @@ fn tally_in(cells: &[u32]) -> Tally
     requires { tally_room ≤ length cells.now }
     ensures { result ≡ tally_in cells.now }
 {
-    let bound = masks_in(cells, BOUND_FROM);
-    let noncompetitive = masks_in(cells, NONCOMPETITIVE_FROM);
     Tally {
         days: cells[0],
         last: cells[1],
-        bound,
-        noncompetitive,
+        bound: masks_in(cells, BOUND_FROM),
+        noncompetitive: masks_in(cells, NONCOMPETITIVE_FROM),
     }
 }
 
@@ -43,11 +36,7 @@ fn put_masks(cells: &mut [u32], from: usize, masks: [u32; Tally::DAYS])
     requires { from + 60 ≤ length cells.old }
     ensures { cells.new ≡ sets cells.old from masks }
 {
-    let mut i: usize = 0;
-    while i < Tally::DAYS {
-        cells[from + i] = masks[i];
-        i += 1;
-    }
+    cells[from..from + Tally::DAYS].copy_from_slice(&masks);
 }
 
 // Puts a tally.
@@ -57,10 +46,8 @@ fn put_tally(cells: &mut [u32], tally: Tally)
 {
     cells[0] = tally.days;
     cells[1] = tally.last;
-    let bound = tally.bound;
-    let noncompetitive = tally.noncompetitive;
-    put_masks(cells, BOUND_FROM, bound);
-    put_masks(cells, NONCOMPETITIVE_FROM, noncompetitive);
+    put_masks(cells, BOUND_FROM, tally.bound);
+    put_masks(cells, NONCOMPETITIVE_FROM, tally.noncompetitive);
 }
 
 // Adds a trading day to a tally of 122 numbers, all 0 for a fresh one: its number, and bit h of `bound` and of `noncompetitive` for hour h from 0. Answers 0; or 25 where the number
@@ -79,14 +66,13 @@ pub extern "C" fn noskjerf_day(tally: &mut [u32], day: u32, bound: u32, noncompe
         bound,
         noncompetitive,
     };
-    let after = day_tally::with_day(tally_in(tally), marked);
-    let outcome = after.outcome;
-    if let Outcome::Refused(refusal) = outcome {
-        return curve::refusal_number(refusal) as i64;
+    match day_tally::with_day(tally_in(tally), marked) {
+        Ok(held) => {
+            put_tally(tally, held);
+            0
+        }
+        Err(refusal) => curve::refusal_number(refusal) as i64,
     }
-    let held = after.tally;
-    put_tally(tally, held);
-    0
 }
 
 // The default verdict on the tally's constraint: 0 competitive, 1 non-competitive; and into `hours` how many hours of the days held are bound, and how many non-competitive. Answers -1
@@ -103,10 +89,8 @@ pub extern "C" fn noskjerf_designation(tally: &[u32], hours: &mut [u32]) -> i64
         return -1;
     }
     let held = tally_in(tally);
-    let bound = held.bound;
-    let noncompetitive = held.noncompetitive;
-    hours[0] = designation::hours_in(bound);
-    hours[1] = designation::hours_in(noncompetitive);
+    hours[0] = designation::hours_in(held.bound);
+    hours[1] = designation::hours_in(held.noncompetitive);
     verdict::finding_number(designation::designated(held)) as i64
 }
 

@@ -7,10 +7,11 @@ ghost use Rattle.rules_state.specs.Layout.{state_room};
 ghost use Rattle.rules_state.specs.Openings.{opening_in};
 ghost use Rattle.rules_state.specs.Intervals.{interval_in};
 ghost use Rattle.rules_state.specs.Calls.{open_answer, state_opened, interval_answer, state_after_interval, verdicts_after_interval, pass_answer, state_after_pass, verdicts_after_pass};
-ghost use Rattle.noskjerf_hour.specs.Calls.{answer_by, state_by, verdicts_by};
+ghost use Rattle.noskjerf_hour.specs.Calls.{lent_in, answer_by, state_by, verdicts_by};
 
-use rules_curve::Outcome;
-use rules_state::Called;
+use interval::LentInterval;
+use opening_cells::LentOpening;
+use rules_state::CallError;
 
 // How many numbers the state of an hour has.
 #[unsafe(no_mangle)]
@@ -38,39 +39,28 @@ pub extern "C" fn noskjerf_open(
         return -1;
     }
     let mut opened = [0i64; rules_state::STATE_ROOM];
-    let called = opening_cells::open_into(
+    let given = LentOpening {
         month,
         portfolios,
         sellers,
         resources,
         blocks,
-        &mut opened,
-    );
-    let Called::Done(outcome) = called else {
-        return -1;
     };
-    if let Outcome::Refused(refusal) = outcome {
-        return curve::refusal_number(refusal) as i64;
+    match opening_cells::open_into(&given, &mut opened) {
+        Ok(()) => {
+            cell_copies::put_all(state, 0, &opened);
+            0
+        }
+        Err(CallError::Refused(refusal)) => curve::refusal_number(refusal) as i64,
+        Err(CallError::TooShort) => -1,
     }
-    cell_copies::put_all(state, 0, &opened);
-    0
 }
 
 // A pass, or an interval, of these numbers.
-fn called<'a>(
-    pass: bool,
-    state: &mut [i64],
-    constraints: usize,
-    shadow: &'a [i64],
-    resources: usize,
-    outputs: &'a [i64],
-    factors: &'a [i64],
-    parameter: i64,
-    verdicts: &mut [i64],
-) -> i64
-    ensures answer { result ≡ answer_by pass state.old verdicts.old (interval_in constraints shadow.now resources outputs.now factors.now parameter) }
-    ensures state { state.new ≡ state_by pass state.old verdicts.old (interval_in constraints shadow.now resources outputs.now factors.now parameter) }
-    ensures verdicts { verdicts.new ≡ verdicts_by pass state.old verdicts.old (interval_in constraints shadow.now resources outputs.now factors.now parameter) }
+fn called(pass: bool, state: &mut [i64], asked: &LentInterval, verdicts: &mut [i64]) -> i64
+    ensures answer { result ≡ answer_by pass state.old verdicts.old (lent_in asked.now) }
+    ensures state { state.new ≡ state_by pass state.old verdicts.old (lent_in asked.now) }
+    ensures verdicts { verdicts.new ≡ verdicts_by pass state.old verdicts.old (lent_in asked.now) }
 {
     if state.len() < rules_state::STATE_ROOM {
         return -1;
@@ -79,25 +69,14 @@ fn called<'a>(
         return -1;
     }
     let mut found = taking::none_found();
-    let called = hour_cells::call_into(
-        state,
-        pass,
-        constraints,
-        shadow,
-        resources,
-        outputs,
-        factors,
-        parameter,
-        &mut found,
-    );
-    let Called::Done(outcome) = called else {
-        return -1;
-    };
-    if let Outcome::Refused(refusal) = outcome {
-        return curve::refusal_number(refusal) as i64;
+    match hour_cells::call_into(state, pass, asked, &mut found) {
+        Ok(()) => {
+            cell_copies::put_all(verdicts, 0, &found);
+            0
+        }
+        Err(CallError::Refused(refusal)) => curve::refusal_number(refusal) as i64,
+        Err(CallError::TooShort) => -1,
     }
-    cell_copies::put_all(verdicts, 0, &found);
-    0
 }
 
 // Takes an interval. `outputs` has locational price, dispatch, available and floor of each resource in turn, `factors` the factor of resource r on constraint c at
@@ -118,17 +97,15 @@ pub extern "C" fn noskjerf_interval<'a>(
     ensures state { state.new ≡ state_after_interval state.old verdicts.old (interval_in constraints shadow.now resources outputs.now factors.now parameter) }
     ensures verdicts { verdicts.new ≡ verdicts_after_interval state.old verdicts.old (interval_in constraints shadow.now resources outputs.now factors.now parameter) }
 {
-    called(
-        false,
-        state,
+    let asked = LentInterval {
         constraints,
         shadow,
         resources,
         outputs,
         factors,
         parameter,
-        verdicts,
-    )
+    };
+    called(false, state, &asked, verdicts)
 }
 
 // Takes a five-minute pass, with what an interval is taken with. Answers 0, puts the quarter hour after it into the state and the verdicts into `verdicts`; or answers
@@ -148,15 +125,13 @@ pub extern "C" fn noskjerf_pass<'a>(
     ensures state { state.new ≡ state_after_pass state.old verdicts.old (interval_in constraints shadow.now resources outputs.now factors.now parameter) }
     ensures verdicts { verdicts.new ≡ verdicts_after_pass state.old verdicts.old (interval_in constraints shadow.now resources outputs.now factors.now parameter) }
 {
-    called(
-        true,
-        state,
+    let asked = LentInterval {
         constraints,
         shadow,
         resources,
         outputs,
         factors,
         parameter,
-        verdicts,
-    )
+    };
+    called(true, state, &asked, verdicts)
 }

@@ -16,9 +16,10 @@ pub extern "C" fn noskjerf_bid(month: u64, start: i64, count: usize, steps: &[i6
     ensures { result ≡ bid_refusal month (raw_bid start count steps.now) }
 {
     let bid = slices::curve_in(start, count, steps);
-    let checked = curve_checks::checked_bid(bid, month);
-    let outcome = checked.outcome;
-    curve::outcome_number(outcome)
+    match curve_checks::checked_bid(bid, month) {
+        Ok(_) => 0,
+        Err(refusal) => curve::refusal_number(refusal),
+    }
 }
 
 // The default energy bid from costs. `points` has quantity and heat rate of each point in turn, `charges` gas, rate, allowance, om, msc, soc and fee, and numbers
@@ -52,8 +53,7 @@ pub extern "C" fn noskjerf_gas_run<'a>(
     ensures { result ≡ run_count market day day_ahead.now real_time.now }
 {
     let list = slices::list_of(day_ahead, real_time, market);
-    let run = gas_book::run_in(list, day);
-    run.len()
+    gas_book::run_in(list, day).len()
 }
 
 // The default energy bid from costs at the gas price that a book has in use: as noskjerf_default, but that the first of the charges counts for nothing, and that 21,

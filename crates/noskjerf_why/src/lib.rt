@@ -6,7 +6,7 @@ ghost use Rattle.std.specs.Prelude.{◌≡◌};
 ghost use Rattle.rules_state.specs.Intervals.{interval_in};
 ghost use Rattle.rules_state.specs.Calls.{why_answer, causes_after, sellers_answer};
 
-use rules_curve::Outcome;
+use interval::LentInterval;
 use rules_interval::Interval;
 
 // Why an interval, with what noskjerf_interval takes, cuts each resource or not. Answers 0 and puts four numbers of each of 64 resources into `causes`: 1 where it is
@@ -32,20 +32,18 @@ pub extern "C" fn noskjerf_why<'a>(
     if causes.len() < rules_state::CAUSE_ROOM {
         return -1;
     }
-    let outcome = cutting::causes_into(
-        state,
+    let asked = LentInterval {
         constraints,
         shadow,
         resources,
         outputs,
         factors,
         parameter,
-        causes,
-    );
-    if let Outcome::Refused(refusal) = outcome {
-        return curve::refusal_number(refusal) as i64;
+    };
+    match cutting::causes_into(state, &asked, causes) {
+        Ok(()) => 0,
+        Err(refusal) => curve::refusal_number(refusal) as i64,
     }
-    0
 }
 
 // How many sellers the verdict on constraint c names, of the verdicts that an interval or a pass put; -1 where `verdicts` has too few numbers.

@@ -15,38 +15,26 @@ use rules_path::Market;
 pub fn counts_good(month: i64, portfolios: usize, resources: usize) -> bool
     ensures { result ≡ counts_within month portfolios resources }
 {
-    if !number::within(month, 1, Opening::MAX_MONTH) {
-        return false;
-    }
-    if portfolios < 1 {
-        return false;
-    }
-    if Market::MAX_PORTFOLIOS < portfolios {
-        return false;
-    }
-    if resources < 1 {
-        return false;
-    }
-    resources <= Interval::MAX_RESOURCES
+    number::within(month, 1, Opening::MAX_MONTH)
+        && (1..=Market::MAX_PORTFOLIOS).contains(&portfolios)
+        && (1..=Interval::MAX_RESOURCES).contains(&resources)
 }
 
 // The mark of portfolio p: 0 past the last.
 fn mark_at(sellers: &[i64], p: usize) -> i64
     ensures { result ≡ cell sellers.now p }
 {
-    if p < sellers.len() { sellers[p] } else { 0 }
+    sellers.get(p).copied().unwrap_or(0)
 }
 
 // Whether each seller is 0 or 1: else 10.
 pub fn sellers_good(sellers: &[i64], portfolios: usize) -> bool
     ensures { result ≡ all_to (λ p. is_mark (cell sellers.now p)) portfolios }
 {
-    let mut p: usize = 0;
-    while p < portfolios {
+    for p in 0..portfolios {
         if !number::within(mark_at(sellers, p), 0, 1) {
             return false;
         }
-        p += 1;
     }
     true
 }

@@ -25,8 +25,11 @@ use Rattle.rules_state.specs.Layout.{block_room}
 use Rattle.rules_state.specs.Openings.{block_of, source_of, raw_from, resource_in}
 use Rattle.rules_state.specs.States.{curve_cells}
 use Rattle.rules_state.specs.Takes.{if_accepted}
-use Rattle.cost.specs.Cells.{ends_from}
-use Rattle.cost.specs.declared.DefaultEnds.{DefaultEnds}
+use Rattle.cost.specs.Cells.{ends_of}
+use Rattle.cost.specs.declared.Ends.{Ends}
+use Rattle.std.specs.Prelude.{Result}
+use Rattle.std.specs.Result.{result_unwrap_or}
+use Rattle.rules_curve.specs.declared.Refusal.{Refusal}
 
 -- the part of a slice from an offset on
 pub tail : (l : List ℤ) (n : ℕ) → take (length l - n) (drop n l) ≡ drop n l
@@ -58,8 +61,8 @@ refused_blank zero c h = absurd (omega arith)
 refused_blank (suc n) c h = refl
 
 -- what is made of a default curve with refusal n, or of none: its outcome, where it starts and ends, and its cells put over others
-abbrev pub Made : ℕ → Curve → DefaultEnds → List ℤ → List ℤ → Type 0
-Made n d ends cells before = (outcome_number ends.outcome ≡ n) × ((ends ≡ ends_from ends.outcome (unless_refused n d)) × (cells ≡ if_accepted n (curve_cells d) before))
+abbrev pub Made : ℕ → Curve → Result Ends Refusal → List ℤ → List ℤ → Type 0
+Made n d ends cells before = (outcome_number ends ≡ n) × ((result_unwrap_or ends (ends_of blank_curve) ≡ ends_of (unless_refused n d)) × (cells ≡ if_accepted n (curve_cells d) before))
 
 -- ---- the parts of its resource
 module _ (b : List ℤ) where
@@ -85,7 +88,7 @@ module _ (b : List ℤ) where
   bid_few month e = omega (arith, curve_few most_bid_steps lowest_bid (highest_bid month) (raw_from b 1) e)
 
   -- its default curve, from its costs or from its pack
-  module _ (ends : DefaultEnds) (cells before : List ℤ) where
+  module _ (ends : Result Ends Refusal) (cells before : List ℤ) where
     pub by_costs : (d : Costs) → cell_at b 25 ≡ pos 0 → d ≡ (resource_in b).costs → Made (cost_refusal d) (cost_curve d) ends cells before
         → Made (source_refusal (resource_in b).source (resource_in b)) (default_by (resource_in b).source (resource_in b)) ends cells before
     unfolding resource_in

@@ -1,4 +1,6 @@
 -- Laws of an hour opened into its cells: what is refused writes nothing. Assumes nothing.
+use Rattle.std.specs.Prelude.{Err, Ok, Result, ⊤}
+use Rattle.std.specs.Result.{IsErrAnd, MatchResult}
 use mathlib.Core.Bool.{Bool, true, false}
 use mathlib.Core.List.{List, ◌++◌, flat_map}
 use mathlib.Core.Path.{◌≡◌, refl, sym, ap, ap₂, ◌∙◌}
@@ -10,7 +12,8 @@ use lib.Seq.{sets}
 use Rattle.rules_number.specs.Order.{nat_of}
 use Rattle.rules_number.specs.Over.{listed}
 use Rattle.rules_number.proofs.OverLaws.{listed_length, listed_same}
-use Rattle.rules_curve.specs.Refusals.{each_to}
+use Rattle.rules_curve.specs.Refusals.{each_to, outcome_number}
+use Rattle.rules_curve.specs.declared.Refusal.{Refusal}
 use Rattle.rules_opening.specs.Openings.{resource_at, counts_within, counts_good, sellers_good, owners_good, opening_refusal, market_of}
 use Rattle.rules_opening.specs.Resources.{resource_refusal, row_of}
 use Rattle.rules_opening.specs.declared.Opening.{Opening}
@@ -22,7 +25,9 @@ use Rattle.rules_library.specs.Slices.{answer_of, if_written}
 use Rattle.rules_state.specs.Layout.{most_resources, most_portfolios, market_from, rows_from, room_of_row, hour_room}
 use Rattle.rules_state.specs.Openings.{block_of, resource_in, opening_in}
 use Rattle.rules_state.specs.States.{standing_cells, quarter_cells, market_cells, row_cells}
-use Rattle.rules_state.specs.Calls.{holds}
+use Rattle.rules_state.specs.Calls.{called_number, holds}
+use Rattle.rules_state.specs.declared.CallError.{CallError}
+use Rattle.rules_state.specs.declared.CallError.TheVariants.{Refused}
 use Rattle.rules_state.specs.Takes.{if_accepted, opened_cells}
 use Rattle.rules_state.specs.OpenedInto.{into_answer, opened_into}
 use Rattle.rules_state.proofs.OpenedLaws.{short_into, into_answer_lem}
@@ -134,6 +139,13 @@ module _ (month : ℤ) (portfolios : ℕ) (sellers : List ℤ) (resources : ℕ)
       e ∙ sym number_by,
       f ∙ ap₂ (λ (k : ℕ) (l : List ℤ). if_accepted k l s) (sym number_by) (whole_hour portfolios sellers resources blocks (room a).0 many s ∙ ap (λ (l : List ℤ). sets s 0 l) cells_are),
     )
+
+-- ---- a refusal is told with the errors of a call
+pub told : (P : Refusal → CallError → Type 0) → ((e : Refusal) (d : CallError) → P e d → d ≡ Refused e) → (r : Result ⊤ Refusal) (s : Result ⊤ CallError)
+    → MatchResult r (λ x. s ≡ Ok x) (λ e. IsErrAnd s (P e)) → called_number s ≡ pos (outcome_number r)
+told P each (Ok x) s h = ap called_number h
+told P each (Err e) (Ok x) h = absurd h
+told P each (Err e) (Err d) h = ap (λ (q : CallError). called_number {T = ⊤} (Err q)) (each e d h)
 
 -- ---- by the room of the cells
 module _ (month : ℤ) (portfolios : ℕ) (sellers : List ℤ) (resources : ℕ) (blocks : List ℤ) (l : List ℤ) where

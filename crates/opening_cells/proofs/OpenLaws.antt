@@ -1,13 +1,14 @@
 -- Laws of an opening in numbers: its checks and its market read from the numbers themselves, and the rows put so far. Assumes nothing.
 use mathlib.Core.List.{List, [], ◌∷◌, ◌++◌, map, flat_map, append_assoc, append-nil}
 use mathlib.Core.Path.{◌≡◌, refl, sym, ap, ap₂, ◌∙◌}
-use Prim.Native.Nat.{ℕ, zero, suc, ◌+◌, ◌*◌, ◌-◌, ◌≤◌, ◌<◌}
+use Prim.Native.Nat.{ℕ, zero, suc, ◌+◌, ◌*◌, ◌-◌, ◌≤◌, ◌<◌, min as least}
 use native.Mathlib.Nat.{add-zero}
 use native.Mathlib.Numerals.{add-one}
 use native.Mathlib.Omega.{arith}
 use lib.IntN.{ℤ, pos}
-use lib.ListN.{length, set, replicate, length-append, length-map}
-use lib.Seq.{sets}
+use lib.ListN.{length, set, take, drop, replicate, length-append, length-map}
+use lib.Seq.{sets, sets-eq}
+use Rattle.std.proofs.lemmas.List.{length-take-le}
 use Rattle.rules_number.specs.Order.{nat_of}
 use Rattle.rules_number.specs.Over.{all_to, listed, padded}
 use Rattle.rules_number.proofs.OverLaws.{all_same, listed_at, listed_length, listed_same, padded_length}
@@ -26,7 +27,7 @@ use Rattle.rules_state.specs.States.{cell_of, floors_cells, standing_cells, quar
 use Rattle.rules_state.specs.Takes.{if_accepted}
 use Rattle.cells.proofs.PutLaws.{flat_last}
 use Rattle.opening_cells.proofs.CurveLaws.{market_put}
-use Rattle.opening_cells.proofs.RunLaws.{over_front}
+use Rattle.opening_cells.proofs.RunLaws.{listed_least, over_front}
 
 -- ---- a list and its padding, as cells
 pub map-append : {A B : Type 0} (f : A → B) (k l : List A) → map f (k ++ l) ≡ map f k ++ map f l
@@ -64,6 +65,22 @@ zeros_more n zero = let e : n + 0 ≡ n = omega arith in ap zeros e ∙ sym (app
 zeros_more n (suc m) =
     let e : n + suc m ≡ suc (n + m) = omega arith in
     ap zeros e ∙ ap (λ (l : List ℤ). l ++ (pos 0 ∷ [])) (zeros_more n m) ∙ append_assoc (zeros n) (zeros m) (pos 0 ∷ [])
+
+zeros_listed : (n : ℕ) → replicate n (pos 0) ≡ zeros n
+unfolding listed
+zeros_listed zero = refl
+zeros_listed (suc n) = ap (λ (l : List ℤ). pos 0 ∷ l) (zeros_listed n) ∙ cons_listed (pos 0) n
+
+-- a front filled with zeros
+pub zeros_put : (s new : List ℤ) (n room : ℕ) → room ≡ least n (length s) → new ≡ replicate (length (take room s)) (pos 0) → new ++ drop room s ≡ sets s 0 (zeros n)
+zeros_put s new n room h e =
+    let long : length (take room s) ≡ room = length-take-le room s (omega (arith, h)) in
+    let put = zeros room in
+    let z : new ≡ put = e ∙ ap (λ (k : ℕ). replicate k (pos 0)) long ∙ zeros_listed room in
+    let count : length put ≡ room = listed_length (λ (k : ℕ). pos 0) room in
+    let past : 0 + length put ≡ room = omega (arith, count) in
+    ap (λ (l : List ℤ). l ++ drop room s) z ∙ ap (λ (k : ℕ). put ++ drop k s) (sym past) ∙ sym (sets-eq put s 0 (omega (arith, count, h)))
+    ∙ listed_least s 0 (λ k. pos 0) n room (omega (arith, h)) (omega arith)
 
 -- a run of so many stores, and zeros after it
 then_zeros : (s : List ℤ) (at : ℕ) (a : List ℤ) (n m : ℕ) → length a ≡ n → sets s at (a ++ zeros m) ≡ sets (sets s at a) (at + n) (zeros m)

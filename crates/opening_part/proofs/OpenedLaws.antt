@@ -1,4 +1,5 @@
 -- Laws of the answer to the part that opens an hour. Assumes nothing.
+use Rattle.std.specs.Prelude.{Result, Ok, Err}
 use Prim.Native.Nat.{ℕ, zero, suc, ◌+◌, ◌-◌}
 use mathlib.Core.Bool.{Bool, true, false}
 use mathlib.Core.Path.{◌≡◌, refl, sym, ap, subst, ◌∙◌}
@@ -15,9 +16,10 @@ use Rattle.rules_text.proofs.UsedLaws.{Used, used_lines, used_then, Rises}
 use Rattle.rules_state.specs.Layout.{hour_room}
 use Rattle.rules_state.specs.Calls.{holds}
 use Rattle.rules_state.specs.OpenedInto.{opened_into}
-use Rattle.text_blocks.specs.Blocks.{last_three, read_cells}
-use Rattle.opening_part.specs.Parts.{faulty_at, part_by, too_short_page, part_in, part_answer, part_state, Opened}
+use Rattle.text_blocks.specs.Blocks.{last_three}
+use Rattle.opening_part.specs.Parts.{read_cells, faulty_at, part_by, too_short_page, part_in, part_answer, part_state, Opened}
 use Rattle.opening_part.specs.declared.PartOpened.{PartOpened}
+use Rattle.opening_part.specs.declared.tables.TableEnd.{TableEnd}
 use Rattle.text_blocks.proofs.LongLaws.{last_then}
 
 pub opened_as : (s : List ℕ) (n at : ℕ) (R R' : Reading Opening) (b a : List ℤ) (r : PartOpened) → R ≡ R' → Opened s n at R b a r → Opened s n at R' b a r
@@ -80,16 +82,14 @@ opened_on s n at n' at' u R h b a r o = record { answer = o.answer ∙ answer_on
 
 -- ---- what the last three tables make, by what they put into cells
 module _ (s : List ℕ) (m : ℕ) (made : List (List Row) → List (List Row) → List Row → List ℤ) (g : List ℤ → Opening) (n : ℕ) (ls : List Line) where
-  then_is : (fault : ℕ) (l : List ℤ) (line q : ℕ) → read_cells s fault l line q ≡ last_three m made n ls
-      → last_three m (λ steps points costs. g (made steps points costs)) n ls ≡ next (read_cells s fault l line q) (λ x. found (g x))
-  then_is fault l line q e = sym (last_then m made g n ls) ∙ ap (λ (r : Reading (List ℤ)). next r (λ x. found (g x))) (sym e)
+  then_is : (r : Result TableEnd ℕ) (l : List ℤ) → read_cells s r l ≡ last_three m made n ls
+      → last_three m (λ steps points costs. g (made steps points costs)) n ls ≡ next (read_cells s r l) (λ x. found (g x))
+  then_is r l e = sym (last_then m made g n ls) ∙ ap (λ (x : Reading (List ℤ)). next x (λ y. found (g y))) (sym e)
 
-  pub tables_fault : (fault : ℕ) (l : List ℤ) (line q : ℕ) → read_cells s fault l line q ≡ last_three m made n ls → (fault ≡ 0 → ⊥)
-      → last_three m (λ steps points costs. g (made steps points costs)) n ls ≡ faulty fault
-  tables_fault zero l line q e h = absurd (h refl)
-  tables_fault (suc fault) l line q e h = then_is (suc fault) l line q e
+  pub tables_fault : (line : ℕ) (l : List ℤ) → read_cells s (Err line) l ≡ last_three m made n ls
+      → last_three m (λ steps points costs. g (made steps points costs)) n ls ≡ faulty line
+  tables_fault line l e = then_is (Err line) l e
 
-  pub tables_found : (fault : ℕ) (l : List ℤ) (line q : ℕ) → read_cells s fault l line q ≡ last_three m made n ls → fault ≡ 0
-      → last_three m (λ steps points costs. g (made steps points costs)) n ls ≡ found (g l) line (lines (drop q s))
-  tables_found zero l line q e h = then_is zero l line q e
-  tables_found (suc fault) l line q e h = absurd (omega arith)
+  pub tables_found : (r : TableEnd) (l : List ℤ) → read_cells s (Ok r) l ≡ last_three m made n ls
+      → last_three m (λ steps points costs. g (made steps points costs)) n ls ≡ found (g l) r.line (lines (drop r.next s))
+  tables_found r l e = then_is (Ok r) l e

@@ -1,8 +1,8 @@
 -- Laws of the part that opens an hour: its first three tables, before the last three. Assumes nothing.
+use Rattle.std.specs.Prelude.{None, Some}
 use Prim.Native.Nat.{ℕ, ◌+◌, ◌*◌, ◌-◌, ◌≤◌, min}
 use mathlib.Core.Path.{◌≡◌, refl, sym, ap, ◌∙◌}
 use mathlib.Core.List.{List, map, flat_map}
-use mathlib.Core.Option.{none, some}
 use mathlib.Core.Bool.{true}
 use native.Mathlib.Omega.{arith}
 use lib.IntN.{ℤ, pos}
@@ -13,7 +13,6 @@ use Rattle.rules_opening.specs.declared.Opening.{Opening}
 use Rattle.rules_text.specs.Numbers.{Line, Row, bytes, lines, row}
 use Rattle.rules_text.specs.Tables.{Reading, Reader, faulty, found, next, ◌▷◌, headed, due, single, one, if_suits, cell, has_id, rows, counting, counted}
 use Rattle.rules_text.specs.Offsets.{names_at, kept, bytes_of}
-use Rattle.rules_text.specs.declared.Found.TheVariants.{At, Nothing}
 use Rattle.rules_text.proofs.LineLaws.{line, lines_after, lines_some, next_lines}
 use Rattle.rules_text.proofs.NameLaws.{not_headed, past_names}
 use Rattle.rules_text.proofs.StageLaws.{Stage, names_few, run_few, table_rows, table}
@@ -33,21 +32,20 @@ use Rattle.opening_part.proofs.OpenedLaws.{opened_as, opened_on}
 
 -- ---- the last three tables, put into zeros after portfolios and starts
 blocks_open : (month : ℤ) (portfolios : ℕ) (sellers : List ℤ) (m : ℕ) (owners : List ℤ) (room : ℕ) → block_room * min m 64 ≤ room
-    → (month' : ℤ) → month' ≡ month → (l : List ℤ) → l ≡ blocks_put owner_cells 0 0 (replicate room (pos 0)) (owner_rows owners (min m 64)) → (n : ℕ) (ls : List Line)
-    → last_three m (λ steps points costs. opening_in month' portfolios sellers m (blocks_of l steps points costs)) n ls ≡ last_three m (opening_with month portfolios sellers m owners) n ls
-blocks_open month portfolios sellers m owners room fits month' em l el n ls =
-    last_same m (λ steps points costs. opening_in month' portfolios sellers m (blocks_of l steps points costs)) (opening_with month portfolios sellers m owners)
-    (λ steps points costs a b c. ap (λ (z : ℤ). opening_in z portfolios sellers m (blocks_of l steps points costs)) em
-    ∙ ap (λ (k : List ℤ). opening_in month portfolios sellers m (blocks_of k steps points costs)) el
+    → (l : List ℤ) → l ≡ blocks_put owner_cells 0 0 (replicate room (pos 0)) (owner_rows owners (min m 64)) → (n : ℕ) (ls : List Line)
+    → last_three m (λ steps points costs. opening_in month portfolios sellers m (blocks_of l steps points costs)) n ls ≡ last_three m (opening_with month portfolios sellers m owners) n ls
+blocks_open month portfolios sellers m owners room fits l el n ls =
+    last_same m (λ steps points costs. opening_in month portfolios sellers m (blocks_of l steps points costs)) (opening_with month portfolios sellers m owners)
+    (λ steps points costs a b c. ap (λ (k : List ℤ). opening_in month portfolios sellers m (blocks_of k steps points costs)) el
     ∙ blocks_decode month portfolios sellers m owners room fits steps points costs a b c) n ls
 
 -- what is opened of them
 pub opened_blocks : (s : List ℕ) (n at : ℕ) (month : ℤ) (portfolios : ℕ) (sellers : List ℤ) (m : ℕ) (owners : List ℤ) (room : ℕ) → block_room * min m 64 ≤ room
-    → (month' : ℤ) → month' ≡ month → (l : List ℤ) → l ≡ blocks_put owner_cells 0 0 (replicate room (pos 0)) (owner_rows owners (min m 64)) → (b a : List ℤ) (r : PartOpened)
-    → Opened s n at (last_three m (λ steps points costs. opening_in month' portfolios sellers m (blocks_of l steps points costs)) n (lines (drop at s))) b a r
+    → (l : List ℤ) → l ≡ blocks_put owner_cells 0 0 (replicate room (pos 0)) (owner_rows owners (min m 64)) → (b a : List ℤ) (r : PartOpened)
+    → Opened s n at (last_three m (λ steps points costs. opening_in month portfolios sellers m (blocks_of l steps points costs)) n (lines (drop at s))) b a r
     → Opened s n at (last_three m (opening_with month portfolios sellers m owners) n (lines (drop at s))) b a r
-opened_blocks s n at month portfolios sellers m owners room fits month' em l el b a r =
-    opened_as s n at _ (last_three m (opening_with month portfolios sellers m owners) n (lines (drop at s))) b a r (blocks_open month portfolios sellers m owners room fits month' em l el n (lines (drop at s)))
+opened_blocks s n at month portfolios sellers m owners room fits l el b a r =
+    opened_as s n at _ (last_three m (opening_with month portfolios sellers m owners) n (lines (drop at s))) b a r (blocks_open month portfolios sellers m owners room fits l el n (lines (drop at s)))
 
 -- ---- the resources
 -- the opening is the same by cells that say the same of its resources
@@ -61,19 +59,18 @@ module _ (month : ℤ) (portfolios : ℕ) (sellers : List ℤ) (s : List ℕ) (n
   abbrev from : List Row → Reader Opening
   from rr = last_three (length rr) (opening_with month portfolios sellers (length rr) (kept 128 (pos 0) (flat_map owner_cells rr)))
 
-  pub unnamed_four : Nothing ≡ names_at s at (bytes "resource portfolio start\n") → headed_four month portfolios sellers n (lines (drop at s)) ≡ faulty (n + 1)
+  pub unnamed_four : None ≡ names_at s at (bytes "resource portfolio start\n") → headed_four month portfolios sellers n (lines (drop at s)) ≡ faulty (n + 1)
   unnamed_four e = ap (λ (r : Reading (List Row)). next r from) (not_headed "resource portfolio start\n" (counted 3) n s at refl e)
 
-  pub named_four : (q : ℕ) → At q ≡ names_at s at (bytes "resource portfolio start\n") → last_four month portfolios sellers (n + 1) (lines (drop q s)) ≡ headed_four month portfolios sellers n (lines (drop at s))
+  pub named_four : (q : ℕ) → Some q ≡ names_at s at (bytes "resource portfolio start\n") → last_four month portfolios sellers (n + 1) (lines (drop q s)) ≡ headed_four month portfolios sellers n (lines (drop at s))
   named_four q e = sym (ap (λ (r : Reading (List Row)). next r from) (past_names "resource portfolio start\n" (counted 3) n s at refl q e))
 
   pub past_four : (rr : List Row) (n' at' : ℕ) → Stage (counted 3) s n at rr n' at' → (m : ℕ) → m ≡ length rr → (room : ℕ) → 2 * min m 64 ≤ room
-      → (owners : List ℤ) → owners ≡ sets (replicate room (pos 0)) 0 (flat_map owner_cells rr) → (month' : ℤ) → month' ≡ month
-      → last_three m (opening_with month' portfolios sellers m owners) n' (lines (drop at' s)) ≡ last_four month portfolios sellers n (lines (drop at s))
+      → (owners : List ℤ) → owners ≡ sets (replicate room (pos 0)) 0 (flat_map owner_cells rr)
+      → last_three m (opening_with month portfolios sellers m owners) n' (lines (drop at' s)) ≡ last_four month portfolios sellers n (lines (drop at s))
   unfolding kept
-  past_four rr n' at' g m em room fits owners eo month' eh =
-      ap (λ (z : ℤ). last_three m (opening_with z portfolios sellers m owners) n' (lines (drop at' s))) eh
-      ∙ with_same month portfolios sellers m owners (kept 128 (pos 0) (flat_map owner_cells rr))
+  past_four rr n' at' g m em room fits owners eo =
+      with_same month portfolios sellers m owners (kept 128 (pos 0) (flat_map owner_cells rr))
       (ap (λ (l : List ℤ). owner_rows l (min m 64)) eo ∙ owners_room (flat_map owner_cells rr) room (min m 64) (omega arith) fits) n' (lines (drop at' s))
       ∙ ap (λ (k : ℕ). last_three k (opening_with month portfolios sellers k (kept 128 (pos 0) (flat_map owner_cells rr))) n' (lines (drop at' s))) em
       ∙ sym (ap (λ (r : Reading (List Row)). next r from) g.is)
@@ -94,18 +91,18 @@ module _ (month : ℤ) (portfolios : ℕ) (sellers : List ℤ) (n : ℕ) (ls : L
       rises_then n (headed "resource portfolio start\n" (counted 3) n ls) _ (rises_headed "resource portfolio start\n" (counted 3) (rises_counted 3) n ls) rises_with
 
 -- past the names of the resources' table
-module _ (month : ℤ) (portfolios : ℕ) (sellers : List ℤ) (s : List ℕ) (n at q : ℕ) (e : At q ≡ names_at s at (bytes "resource portfolio start\n")) where
-  pub named_opened : (month' : ℤ) → month' ≡ month → (b a : List ℤ) (r : PartOpened) → Opened s (n + 1) q (last_four month' portfolios sellers (n + 1) (lines (drop q s))) b a r
+module _ (month : ℤ) (portfolios : ℕ) (sellers : List ℤ) (s : List ℕ) (n at q : ℕ) (e : Some q ≡ names_at s at (bytes "resource portfolio start\n")) where
+  pub named_opened : (b a : List ℤ) (r : PartOpened) → Opened s (n + 1) q (last_four month portfolios sellers (n + 1) (lines (drop q s))) b a r
       → Opened s n at (headed_four month portfolios sellers n (lines (drop at s))) b a r
-  named_opened month' em b a r o =
-      let R = last_four month' portfolios sellers (n + 1) (lines (drop q s)) in
+  named_opened b a r o =
+      let R = last_four month portfolios sellers (n + 1) (lines (drop q s)) in
       opened_as s n at R (headed_four month portfolios sellers n (lines (drop at s))) b a r
-      (ap (λ (z : ℤ). last_four z portfolios sellers (n + 1) (lines (drop q s))) em ∙ named_four month portfolios sellers s n at q e)
-      (opened_on s n at (n + 1) q (used_names "resource portfolio start\n" s n at refl q e) R (rises_four month' portfolios sellers (n + 1) (lines (drop q s))) b a r o)
+      (named_four month portfolios sellers s n at q e)
+      (opened_on s n at (n + 1) q (used_names "resource portfolio start\n" s n at refl q e) R (rises_four month portfolios sellers (n + 1) (lines (drop q s))) b a r o)
 
 -- a table of lines that count up by one
 module _ (s : List ℕ) (n at q count at' : ℕ) where
-  pub portfolio_stage : At q ≡ names_at s at (bytes "portfolio seller\n") → count ≡ length (counting 2 (lines (drop q s))) → at' ≡ q + bytes_of count (lines (drop q s))
+  pub portfolio_stage : Some q ≡ names_at s at (bytes "portfolio seller\n") → count ≡ length (counting 2 (lines (drop q s))) → at' ≡ q + bytes_of count (lines (drop q s))
       → Stage (headed "portfolio seller\n" (counted 2)) s n at (counting 2 (lines (drop q s))) (n + 1 + count) at'
   unfolding counted
   portfolio_stage e = table "portfolio seller\n" (counting 2) refl (run_few 2 has_id _ 0) s n at q e count at'
@@ -118,18 +115,14 @@ owner_stage = table_rows (counting 3) (run_few 3 has_id _ 0)
 -- what is opened after the lines of the resources, whose portfolios and starts are kept where there is room for them
 module _ (month : ℤ) (portfolios : ℕ) (sellers : List ℤ) (s : List ℕ) (n at count at' : ℕ) (ec : count ≡ length (counting 3 (lines (drop at s)))) (en : at' ≡ at + bytes_of count (lines (drop at s))) where
   pub owners_opened : (room : ℕ) → 2 * min count 64 ≤ room → (owners : List ℤ) → owners ≡ sets (replicate room (pos 0)) 0 (flat_map owner_cells (counting 3 (lines (drop at s))))
-      → (month' : ℤ) → month' ≡ month → (b a : List ℤ) (r : PartOpened)
-      → Opened s (n + count) at' (last_three count (opening_with month' portfolios sellers count owners) (n + count) (lines (drop at' s))) b a r
+      → (b a : List ℤ) (r : PartOpened) → Opened s (n + count) at' (last_three count (opening_with month portfolios sellers count owners) (n + count) (lines (drop at' s))) b a r
       → Opened s n at (last_four month portfolios sellers n (lines (drop at s))) b a r
-  owners_opened room fits owners eo month' em b a r o =
+  owners_opened room fits owners eo b a r o =
       let g = owner_stage s n at count at' ec en in
-      let made = opening_with month' portfolios sellers count owners in
+      let made = opening_with month portfolios sellers count owners in
       opened_as s n at (last_three count made (n + count) (lines (drop at' s))) (last_four month portfolios sellers n (lines (drop at s))) b a r
-      (past_four month portfolios sellers s n at (counting 3 (lines (drop at s))) (n + count) at' g count ec room fits owners eo month' em)
+      (past_four month portfolios sellers s n at (counting 3 (lines (drop at s))) (n + count) at' g count ec room fits owners eo)
       (opened_on s n at (n + count) at' g.used (last_three count made (n + count) (lines (drop at' s))) (rises_last count made (n + count) (lines (drop at' s))) b a r o)
-
-  pub owners_few : n + count + length (lines (drop at' s)) ≤ n + length (lines (drop at s))
-  owners_few = (owner_stage s n at count at' ec en).few
 
 -- ---- month and portfolios
 abbrev owners_then : ℤ → List Row → Reader Opening
@@ -153,17 +146,17 @@ four_is month pr n ls =
     (with_is rr month pr) k rest)
 
 module _ (s : List ℕ) (n at : ℕ) where
-  pub unnamed_month : Nothing ≡ names_at s at (bytes "month\n") → read_opening n (lines (drop at s)) ≡ faulty (n + 1)
+  pub unnamed_month : None ≡ names_at s at (bytes "month\n") → read_opening n (lines (drop at s)) ≡ faulty (n + 1)
   unnamed_month e = opening_is_lem n (lines (drop at s)) ∙ ap (λ (r : Reading ℤ). next r marks_then) (not_headed "month\n" (due single) n s at refl e)
 
-  module _ (q : ℕ) (e : At q ≡ names_at s at (bytes "month\n")) where
-    pub no_month : row 1 (line (drop q s)) ≡ none → read_opening n (lines (drop at s)) ≡ faulty (n + 1 + 1)
+  module _ (q : ℕ) (e : Some q ≡ names_at s at (bytes "month\n")) where
+    pub no_month : row 1 (line (drop q s)) ≡ None → read_opening n (lines (drop at s)) ≡ faulty (n + 1 + 1)
     unfolding single
     no_month m =
         opening_is_lem n (lines (drop at s))
         ∙ ap (λ (x : Reading ℤ). next x marks_then) (past_names "month\n" (due single) n s at refl q e ∙ due_none single (n + 1) (drop q s) (ap one m))
 
-    pub month_stage : (x : Row) → row 1 (line (drop q s)) ≡ some x → (at1 : ℕ) → at1 ≡ q + length (line (drop q s)) → Stage (headed "month\n" (due single)) s n at (cell 0 x) (n + 1 + 1) at1
+    pub month_stage : (x : Row) → row 1 (line (drop q s)) ≡ Some x → (at1 : ℕ) → at1 ≡ q + length (line (drop q s)) → Stage (headed "month\n" (due single)) s n at (cell 0 x) (n + 1 + 1) at1
     unfolding single
     month_stage x m at1 a =
         let there = row_there (λ y. true) 0 x (drop q s) (ap (if_suits (λ y. true)) m) in
@@ -181,7 +174,7 @@ module _ (s : List ℕ) (n at : ℕ) where
     read_first : read_opening n (lines (drop at s)) ≡ marks_then month n1 (lines (drop at1 s))
     read_first = opening_is_lem n (lines (drop at s)) ∙ ap (λ (r : Reading ℤ). next r marks_then) first.is
 
-    pub unnamed_portfolios : Nothing ≡ names_at s at1 (bytes "portfolio seller\n") → read_opening n (lines (drop at s)) ≡ faulty (n1 + 1)
+    pub unnamed_portfolios : None ≡ names_at s at1 (bytes "portfolio seller\n") → read_opening n (lines (drop at s)) ≡ faulty (n1 + 1)
     unnamed_portfolios e = read_first ∙ ap (λ (r : Reading (List Row)). next r (owners_then month)) (not_headed "portfolio seller\n" (counted 2) n1 s at1 refl e)
 
     pub past_portfolios : (pr : List Row) (n2 at2 : ℕ) → Stage (headed "portfolio seller\n" (counted 2)) s n1 at1 pr n2 at2 → (count : ℕ) → count ≡ length pr

@@ -1,5 +1,5 @@
 -- What the part of a text that opens an hour answers.
-use Rattle.std.specs.Prelude.{ℕ, zero, suc, ◌+◌, ◌-◌, ◌≡◌, Bool, true, false, ℤ, pos, length, drop}
+use Rattle.std.specs.Prelude.{ℕ, zero, suc, ◌+◌, ◌-◌, ◌≡◌, Bool, true, false, ℤ, pos, length, drop, Result, Ok, Err}
 use mathlib.Core.List.{List, [], flat_map}
 use Rattle.rules_opening.specs.declared.Opening.{Opening}
 use Rattle.rules_opening.specs.Openings.{opening_refusal}
@@ -11,6 +11,12 @@ use Rattle.rules_state.specs.Calls.{holds}
 use Rattle.rules_state.specs.OpenedInto.{opened_into}
 use Rattle.text_blocks.specs.Blocks.{owner_cells, last_three, opening_with}
 use Rattle.opening_part.specs.declared.PartOpened.{PartOpened}
+use Rattle.opening_part.specs.declared.tables.TableEnd.{TableEnd}
+
+-- the cells with what is found, up to a line, with the next line at an offset of the text; or the faulty line
+abbrev pub read_cells : List ℕ → Result TableEnd ℕ → List ℤ → Reading (List ℤ)
+read_cells s (Ok g) l = found l g.line (lines (drop g.next s))
+read_cells s (Err line) l = faulty line
 
 -- the part's last four tables, after a month and the marks of the portfolios, from the first line of the resources on
 abbrev pub last_four : ℤ → ℕ → List ℤ → Reader Opening

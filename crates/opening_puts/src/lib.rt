@@ -1,17 +1,17 @@
 // The resources of an opening put into a lent slice of numbers, a block for each. The contracts cite specs/Blocks.
 #![tactic(auto)]
 
-ghost use Rattle.std.specs.Prelude.{◌≡◌, ◌+◌, ◌≤◌, length};
+ghost use Rattle.std.specs.Prelude.{List, ℤ, ◌≡◌, ◌+◌, ◌*◌, ◌≤◌, length};
 ghost use mathlib.Core.List.{[], ◌∷◌, flat_map};
 ghost use Rattle.std.proofs.lemmas.List.Edits.{sets};
 ghost use Rattle.rules_curve.specs.Curves.{most_steps};
 ghost use Rattle.rules_cost.specs.Costs.{most_points};
 ghost use Rattle.rules_state.specs.Fits.{Each};
 ghost use Rattle.rules_state.specs.Layout.{block_room};
-ghost use Rattle.opening_puts.specs.Blocks.{blocks_room, pairs_room, raw_room, cost_room, step_numbers, point_numbers, raw_numbers, cost_numbers, source_number, block_numbers, Rooms};
+ghost use Rattle.opening_puts.specs.Blocks.{blocks_room, raw_room, cost_room, raw_numbers, cost_numbers, source_number, block_numbers, Rooms};
 
 use rules_cost::Costs;
-use rules_curve::{Curve, RawCurve};
+use rules_curve::RawCurve;
 use rules_interval::Interval;
 use rules_opening::{Resource, Source};
 
@@ -27,33 +27,20 @@ fn put_pair(blocks: &mut [i64], at: usize, first: i64, second: i64)
     cells::put(blocks, at + 1, second);
 }
 
-// Puts end and price of each step in turn.
-fn put_steps(blocks: &mut [i64], at: usize, raw: RawCurve)
-    requires { at + pairs_room ≤ blocks_room }
-    ensures { blocks.new ≡ sets blocks.old at (flat_map step_numbers raw.steps) }
+// Puts two numbers of each of a list in turn.
+fn put_pairs<T: Copy, F: Fn(T) -> (i64, i64), const N: usize>(
+    blocks: &mut [i64],
+    at: usize,
+    list: &[T; N],
+    pair: F,
+)
+    requires room { at + 2 * N ≤ blocks_room }
+    requires callable { F.IsAlwaysCallable pair }
+    ensures { (numbers : T → List ℤ) → ((x : T) (y : ℤ × ℤ) → F.post pair x y → numbers x ≡ y.0 ∷ y.1 ∷ []) → blocks.new ≡ sets blocks.old at (flat_map numbers list.now) }
 {
-    let mut k: usize = 0;
-    while k < Curve::MAX_STEPS {
-        let step = raw.steps[k];
-        let end = step.end;
-        let price = step.price;
-        put_pair(blocks, at + 2 * k, end, price);
-        k += 1;
-    }
-}
-
-// Puts quantity and heat rate of each point in turn.
-fn put_points(blocks: &mut [i64], at: usize, costs: Costs)
-    requires { at + pairs_room ≤ blocks_room }
-    ensures { blocks.new ≡ sets blocks.old at (flat_map point_numbers costs.points) }
-{
-    let mut k: usize = 0;
-    while k < Costs::MAX_POINTS {
-        let point = costs.points[k];
-        let mw = point.mw;
-        let heat = point.heat;
-        put_pair(blocks, at + 2 * k, mw, heat);
-        k += 1;
+    for (k, x) in list.iter().enumerate() {
+        let (first, second) = pair(*x);
+        put_pair(blocks, at + 2 * k, first, second);
     }
 }
 
@@ -63,10 +50,9 @@ fn put_raw(blocks: &mut [i64], at: usize, raw: RawCurve)
     ensures room { length raw.steps ≡ most_steps }
     ensures blocks { blocks.new ≡ sets blocks.old at (raw_numbers raw) }
 {
-    let start = raw.start;
-    cells::put(blocks, at, start);
+    cells::put(blocks, at, raw.start);
     cells::put_whole(blocks, at + 1, raw.count as u64);
-    put_steps(blocks, at + 2, raw);
+    put_pairs(blocks, at + 2, &raw.steps, |step| (step.end, step.price));
 }
 
 // Puts costs: the number of points, the points, and the seven charges.
@@ -75,19 +61,17 @@ fn put_costs(blocks: &mut [i64], at: usize, costs: Costs)
     ensures room { length costs.points ≡ most_points }
     ensures blocks { blocks.new ≡ sets blocks.old at (cost_numbers costs) }
 {
-    let gas = costs.gas;
-    let rate = costs.rate;
-    let allowance = costs.allowance;
-    let om = costs.om;
-    let msc = costs.msc;
-    let soc = costs.soc;
-    let fee = costs.fee;
     cells::put_whole(blocks, at, costs.count as u64);
-    put_points(blocks, at + 1, costs);
-    put_pair(blocks, at + 23, gas, rate);
-    put_pair(blocks, at + 25, allowance, om);
-    put_pair(blocks, at + 27, msc, soc);
-    cells::put(blocks, at + 29, fee);
+    put_pairs(
+        blocks,
+        at + 1,
+        &costs.points,
+        |point| (point.mw, point.heat),
+    );
+    put_pair(blocks, at + 23, costs.gas, costs.rate);
+    put_pair(blocks, at + 25, costs.allowance, costs.om);
+    put_pair(blocks, at + 27, costs.msc, costs.soc);
+    cells::put(blocks, at + 29, costs.fee);
 }
 
 fn source_number(source: Source) -> i64
@@ -105,16 +89,11 @@ fn put_resource(blocks: &mut [i64], at: usize, resource: Resource)
     ensures room { Rooms resource }
     ensures blocks { blocks.new ≡ sets blocks.old at (block_numbers resource) }
 {
-    let portfolio = resource.portfolio;
-    let bid = resource.bid;
-    let source = resource.source;
-    let costs = resource.costs;
-    let pack = resource.pack;
-    cells::put(blocks, at, portfolio);
-    put_raw(blocks, at + 1, bid);
-    cells::put(blocks, at + 25, source_number(source));
-    put_costs(blocks, at + 26, costs);
-    put_raw(blocks, at + 56, pack);
+    cells::put(blocks, at, resource.portfolio);
+    put_raw(blocks, at + 1, resource.bid);
+    cells::put(blocks, at + 25, source_number(resource.source));
+    put_costs(blocks, at + 26, resource.costs);
+    put_raw(blocks, at + 56, resource.pack);
 }
 
 // Puts the block of each resource.
@@ -122,10 +101,7 @@ pub fn put_blocks(blocks: &mut [i64], list: [Resource; Interval::MAX_RESOURCES])
     ensures room { Each Rooms list }
     ensures blocks { blocks.new ≡ sets blocks.old 0 (flat_map block_numbers list) }
 {
-    let mut r: usize = 0;
-    while r < Interval::MAX_RESOURCES {
-        let resource = list[r];
-        put_resource(blocks, rules_state::BLOCK_ROOM * r, resource);
-        r += 1;
+    for (r, resource) in list.iter().enumerate() {
+        put_resource(blocks, rules_state::BLOCK_ROOM * r, *resource);
     }
 }

@@ -1,4 +1,5 @@
 -- Laws of what is put on a page. Assumes nothing.
+use Rattle.std.specs.Prelude.{None, Option, Some}
 use Prim.Native.Nat.{ℕ, ◌+◌, ◌≤◌, ◌<◌, min}
 use mathlib.Core.Path.{◌≡◌, refl, sym, ap, ◌∙◌}
 use mathlib.Core.List.{List, [], ◌∷◌, ◌++◌, map, append-nil}
@@ -14,8 +15,6 @@ use Rattle.rules_path.specs.declared.Finding.TheVariants.{Competitive}
 use Rattle.rules_path.specs.declared.Verdict.{Verdict}
 use Rattle.rules_page.specs.Pages.{printable, is_room, put_within, put_within_to}
 use Rattle.rules_text.specs.Printing.{line_text, group_text, table_text, printed, printed_to}
-use Rattle.rules_text.specs.declared.Printed.{Printed}
-use Rattle.rules_text.specs.declared.Printed.TheVariants.{To, Full}
 use Rattle.rules_text.proofs.ListLaws.{at_cons, sets_append}
 
 -- a text put piece by piece: what is left of it, put at p, is the whole
@@ -43,18 +42,18 @@ module _ {out : List ℕ} {at : ℕ} {text now : List ℕ} {p : ℕ} {rest : Lis
   putting_done e = (ap (sets now p) (sym e) ∙ w.whole, omega (arith, w.end, ap length e))
 
 -- ---- a text that fits is put by a call that answers To
-module _ (out : List ℕ) (at : ℕ) (text last : List ℕ) (answer : Printed) (fits : at + length text ≤ length out) (e : last ≡ printed out at text) (f : answer ≡ printed_to out at text) where
-  pub put_both : (last ≡ sets out at text) × (answer ≡ To (at + length text))
+module _ (out : List ℕ) (at : ℕ) (text last : List ℕ) (answer : Option ℕ) (fits : at + length text ≤ length out) (e : last ≡ printed out at text) (f : answer ≡ printed_to out at text) where
+  pub put_both : (last ≡ sets out at text) × (answer ≡ Some (at + length text))
   unfolding printed printed_to
   put_both =
       let h = le-leb (at + length text) (length out) fits in
-      (e ∙ ap (λ (b : Bool). cond b (sets out at text) out) h, f ∙ ap (λ (b : Bool). cond b (To (at + length text)) Full) h)
+      (e ∙ ap (λ (b : Bool). cond b (sets out at text) out) h, f ∙ ap (λ (b : Bool). cond b (Some (at + length text)) None) h)
 
-  pub put_to : (next : ℕ) → answer ≡ To next → (last ≡ sets out at text) × (next ≡ at + length text)
-  put_to next g = (put_both.0, let h : answer ≡ To (at + length text) = put_both.1 in cc)
+  pub put_to : (next : ℕ) → answer ≡ Some next → (last ≡ sets out at text) × (next ≡ at + length text)
+  put_to next g = (put_both.0, let h : answer ≡ Some (at + length text) = put_both.1 in cc)
 
-  pub put_full : {X : Type 0} → answer ≡ Full → X
-  put_full g = absurd (let h : answer ≡ To (at + length text) = put_both.1 in let z : ◌≡◌ {A = ℕ} 0 1 = cc in omega arith)
+  pub put_full : {X : Type 0} → answer ≡ None → X
+  put_full g = absurd (let h : answer ≡ Some (at + length text) = put_both.1 in let z : ◌≡◌ {A = ℕ} 0 1 = cc in omega arith)
 
 -- ---- the next group of a table
 module _ {A : Type 0} (g : A → List Row) (d : A) (i : ℕ) (l : List A) (c : ℕ) where
@@ -87,12 +86,12 @@ no_verdict = record { finding = Competitive; demand = 0; left = 0; named = 0; wi
 
 -- ---- where there is room, and where not
 module _ (room : ℕ) (out : List ℕ) (at : ℕ) (text : List ℕ) where
-  pub within_none : is_room room out at ≡ false → (out ≡ put_within room out at text) × (Full ≡ put_within_to room out at text)
+  pub within_none : is_room room out at ≡ false → (out ≡ put_within room out at text) × (None ≡ put_within_to room out at text)
   unfolding put_within put_within_to
-  within_none h = (sym (ap (λ (b : Bool). cond b (sets out at text) out) h), sym (ap (λ (b : Bool). cond b (To (at + length text)) Full) h))
+  within_none h = (sym (ap (λ (b : Bool). cond b (sets out at text) out) h), sym (ap (λ (b : Bool). cond b (Some (at + length text)) None) h))
 
   pub within_some : (now : List ℕ) (r : ℕ) → is_room room out at ≡ true → now ≡ sets out at text → r ≡ at + length text
-      → (now ≡ put_within room out at text) × (To r ≡ put_within_to room out at text)
+      → (now ≡ put_within room out at text) × (Some r ≡ put_within_to room out at text)
   unfolding put_within put_within_to
   within_some now r h e f =
-      (e ∙ sym (ap (λ (b : Bool). cond b (sets out at text) out) h), ap To f ∙ sym (ap (λ (b : Bool). cond b (To (at + length text)) Full) h))
+      (e ∙ sym (ap (λ (b : Bool). cond b (sets out at text) out) h), ap Some f ∙ sym (ap (λ (b : Bool). cond b (Some (at + length text)) None) h))

@@ -1,8 +1,8 @@
--- A refusal leaves the cells, and verdicts are put one after the other. Assumes nothing.
+-- Verdicts are put one after the other. Assumes nothing.
 use mathlib.Core.Bool.{Bool, true, false, cond}
 use mathlib.Core.List.{List, map}
 use mathlib.Core.Path.{◌≡◌, refl, sym, ap, ap₂, ◌∙◌}
-use Prim.Native.Nat.{ℕ, zero, suc, ◌+◌, ◌*◌, ◌≤◌, ◌<◌}
+use Prim.Native.Nat.{ℕ, ◌+◌, ◌*◌, ◌≤◌, ◌<◌}
 use native.Mathlib.Omega.{arith}
 use lib.IntN.{ℤ}
 use lib.ListN.{length, get_or, length-map}
@@ -15,13 +15,8 @@ use Rattle.rules_path.specs.declared.Finding.TheVariants.{Competitive, NonCompet
 use Rattle.rules_state.specs.States.{cell_of}
 use Rattle.rules_path.specs.declared.Verdict.{Verdict}
 use Rattle.rules_state.specs.Layout.{verdict_width}
-use Rattle.rules_state.specs.Takes.{if_accepted}
 use Rattle.rules_state.specs.Verdicts.{verdict_cells, verdicts_cells}
 use Rattle.cells.proofs.PutLaws.{BlocksLeft, blocks_begin, blocks_go_on, blocks_end}
-
-pub refused_cells : {A : Type 0} (n : ℕ) (written l : List A) → 0 < n → l ≡ if_accepted n written l
-refused_cells zero written l h = absurd (omega arith)
-refused_cells (suc n) written l h = refl
 
 -- a verdict is twenty cells
 pub verdict_length : (d : Path) → length (verdict_cells (verdict_of d)) ≡ verdict_width

@@ -7,3 +7,5 @@ pub mod JudgeLaws
 pub mod JudgedLaws
 pub mod MarketLaws
 pub mod OfferLaws
+mod PartLaws
+mod SoundLaws

@@ -1,11 +1,11 @@
 -- What net sellers can withhold on the constraints of an interval, put one constraint after the other. Assumes nothing.
 use mathlib.Core.Bool.{Bool, true, false, cond}
-use mathlib.Core.List.{List, ◌∷◌, ◌++◌, flat_map, map-id}
+use mathlib.Core.List.{List, ◌∷◌, ◌++◌, flat_map}
 use mathlib.Core.Path.{◌≡◌, refl, sym, ap, ap₂, ◌∙◌}
 use Prim.Native.Nat.{ℕ, zero, suc, ◌+◌, ◌-◌, ◌*◌, ◌≤◌, ◌<◌}
 use native.Mathlib.Omega.{arith}
 use lib.IntN.{ℤ, pos}
-use lib.ListN.{length, get_or, set, replicate}
+use lib.ListN.{length, get_or, replicate}
 use lib.Seq.{sets}
 use Rattle.rules_number.specs.Over.{listed}
 use Rattle.rules_number.proofs.OverLaws.{listed_length, listed_at, listed_same}
@@ -16,29 +16,13 @@ use Rattle.rules_path.specs.declared.Market.{Market}
 use Rattle.rules_path.proofs.PathLaws.{demand_within}
 use Rattle.rules_library.specs.Slices.{cell_at}
 use Rattle.rules_state.specs.Intervals.{outputs_in}
-use Rattle.cells.proofs.PutLaws.{Left, begins, goes_on, ends, BlocksLeft, blocks_begin, blocks_go_on, blocks_end, flat_last}
+use Rattle.cells.proofs.PutLaws.{BlocksLeft, blocks_begin, blocks_go_on, blocks_end, flat_last}
 use Rattle.interval.specs.Over.{interval_over}
 use Rattle.path.specs.Offered.{offer_width, offered_row, offered_cells}
 use Rattle.path.specs.Tallies.{Tallied, SellersIn, sold_of, tally_of, SoundOver}
 use Rattle.path.proofs.JudgeLaws.{offers_are}
 use Rattle.path.proofs.SellerLaws.{offer_same}
 use Rattle.path.proofs.TallyLaws.{known}
-
--- ---- a row is put: its first number, and then the others in turn
-module _ (start : List ℕ) (at : ℕ) (l : List ℕ) where
-  abbrev pub RowLeft : List ℕ → ℕ → Type 0
-  RowLeft out p = Left (λ x. x) l start (at + 1) out p
-
-  pub row_begins : RowLeft start 0
-  row_begins = begins (λ x. x) l start (at + 1)
-
-  pub row_goes_on : (out : List ℕ) (p : ℕ) → RowLeft out p → p < length l → RowLeft (set out (at + 1 + p) (get_or l p 0)) (p + 1)
-  row_goes_on out p e h = goes_on (λ x. x) l start (at + 1) 0 out p _ (get_or l p 0) e h refl refl
-
-  pub row_ends : (before : List ℕ) (lack : ℕ) (out : List ℕ) (p : ℕ) → start ≡ set before at lack → RowLeft out p → length l ≤ p → out ≡ sets before at (lack ∷ l)
-  row_ends before lack out p s e h =
-      let z : at + 1 ≡ suc at = omega arith in
-      ends (λ x. x) l start (at + 1) out p e h ∙ ap₂ (λ (i : ℕ) (x : List ℕ). sets start i x) z (map-id l) ∙ ap (λ (x : List ℕ). sets x (suc at) l) s
 
 -- ---- the row of a constraint, from its tally
 module _ (shadow : ℤ) (by : List ℕ) (factors outputs : List ℤ) (resources c : ℕ) (sound : SoundOver factors outputs resources c) where

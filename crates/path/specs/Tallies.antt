@@ -8,6 +8,8 @@ use Rattle.rules_path.specs.Verdicts.{path_of}
 use Rattle.rules_path.specs.declared.Market.{Market}
 use Rattle.rules_state.specs.Intervals.{outputs_in}
 use Rattle.rules_state.specs.States.{cell_of}
+use Rattle.rules_library.specs.Slices.{cell_at}
+use Rattle.interval.specs.declared.LentInterval.{LentInterval}
 use Rattle.path.specs.declared.constraint.Tally.{Tally}
 use Rattle.path.specs.declared.constraint.Top.{Top}
 
@@ -27,6 +29,10 @@ Sold sellers n ports = (r : ℕ) → r < n → at sellers r < 16 → at sellers 
 abbrev pub sold_of : ℤ → List ℕ → List ℤ → List ℤ → ℕ → ℕ → Path
 sold_of shadow sellers factors outputs resources c =
     path_of shadow factors (outputs_in outputs 1) (outputs_in outputs 2) (outputs_in outputs 3) sellers (replicate 16 1) resources c
+
+-- constraint c of a lent interval, in the same way
+abbrev pub sold_in : LentInterval → List ℕ → ℕ → Path
+sold_in v sellers c = sold_of (cell_at v.shadow.now c) sellers v.factors.now v.outputs.now v.resources c
 
 -- demand, supply and what each portfolio can withhold
 pub record Tallied : Type 0 where

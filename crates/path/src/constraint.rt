@@ -7,8 +7,9 @@ ghost use Rattle.rules_path.specs.Verdicts.{verdict_of};
 ghost use Rattle.rules_state.specs.Layout.{verdict_width, verdict_room};
 ghost use Rattle.rules_state.specs.Verdicts.{verdict_cells};
 ghost use Rattle.path.specs.Offered.{offer_width, offer_room, offered_row};
-ghost use Rattle.path.specs.Tallies.{SoundOver, Reaches, Held, Within, Sold, sold_of, tallied, tally_of, top_of, Clear, withheld_cells};
+ghost use Rattle.path.specs.Tallies.{SoundOver, Reaches, Held, Within, Sold, sold_in, sold_of, tallied, tally_of, top_of, Clear, withheld_cells};
 
+use interval::LentInterval;
 use rules_interval::Interval;
 use rules_path::{Market, Verdict};
 
@@ -37,45 +38,35 @@ fn rows_in(length: usize, n: usize, c: usize) -> usize
     number::at_most((length - c - 1) / Interval::MAX_CONSTRAINTS + 1, n)
 }
 
-// A byte as a number.
-fn wide(x: u8) -> usize
-    ensures { result ≡ x }
-{
-    x as usize
-}
-
 // The tally of a constraint, what each net seller can withhold into blank offers. A resource whose factor isn't below 0, or is past the end, adds nothing, one that is no
 // net seller's nothing that can be withheld.
-fn tally_of<'a>(
-    sellers: &'a [u8; Interval::MAX_RESOURCES],
-    factors: &'a [i64],
-    outputs: &'a [i64],
-    resources: usize,
+fn tally_of(
+    sellers: &[u8; Interval::MAX_RESOURCES],
+    asked: &LentInterval,
     c: usize,
     offers: &mut [u64; Market::MAX_PORTFOLIOS],
 ) -> Tally
-    requires { SoundOver factors.now outputs.now resources c × (offers.old ≡ replicate 16 0) }
-    ensures { tallied result offers.new ≡ tally_of (sold_of (pos 0) sellers.now factors.now outputs.now resources c) }
+    requires { SoundOver asked.now.factors.now asked.now.outputs.now asked.now.resources c × (offers.old ≡ replicate 16 0) }
+    ensures { tallied result offers.new ≡ tally_of (sold_of (pos 0) sellers.now asked.now.factors.now asked.now.outputs.now asked.now.resources c) }
 {
-    let rows = rows_in(factors.len(), resources, c);
+    let factors = asked.factors;
+    let rows = rows_in(factors.len(), asked.resources, c);
     let mut demand: u64 = 0;
     let mut supply: u64 = 0;
-    let mut r: usize = 0;
-    while r < rows {
+    for r in 0..rows {
         let e = effectiveness(factors[r * Interval::MAX_CONSTRAINTS + c]);
         if 0 < e {
-            let out = interval::output_at(outputs, r);
+            let out = interval::output_at(asked.outputs, r);
             let most = out.available as u64;
             let kept = out.floor as u64;
             let wanted = out.dispatch as u64;
             demand += e * wanted;
             supply += e * most;
-            let p = wide(sellers[r]);
+            let p = usize::from(sellers[r]);
             if p < Market::MAX_PORTFOLIOS {
                 offers[p] += e * (most - kept);
             }
         }
-        r += 1;
     }
     Tally { demand, supply }
 }
@@ -86,12 +77,10 @@ pub(crate) fn largest_to(w: &[u64; Market::MAX_PORTFOLIOS], n: usize) -> usize
     ensures { (result ≡ largest w.now n) × (result < 16) }
 {
     let mut best: usize = 0;
-    let mut i: usize = 0;
-    while i < n {
+    for i in 0..n {
         if w[best] < w[i] {
             best = i;
         }
-        i += 1;
     }
     best
 }
@@ -130,8 +119,7 @@ fn put_sellers(
 {
     let mut total: u64 = 0;
     let mut named: u64 = 0;
-    let mut k: usize = Verdict::MAX_SELLERS;
-    while 0 < k {
+    for turn in 0..Verdict::MAX_SELLERS {
         let p = largest_of(w, ports);
         let amount = w[p];
         if amount == 0 {
@@ -141,7 +129,6 @@ fn put_sellers(
         named += 1 << p;
         verdicts[at + p] = amount as i64;
         w[p] = 0;
-        k -= 1;
     }
     Top { total, named }
 }
@@ -151,35 +138,29 @@ fn put_none(verdicts: &mut [i64; rules_state::VERDICT_ROOM], at: usize)
     requires { at + verdict_width ≤ verdict_room }
     ensures { verdicts.new ≡ sets verdicts.old at (replicate verdict_width (pos 0)) }
 {
-    let mut k: usize = 0;
-    while k < rules_state::VERDICT_WIDTH {
-        verdicts[at + k] = 0;
-        k += 1;
-    }
+    verdicts[at..at + rules_state::VERDICT_WIDTH].fill(0);
 }
 
-// Puts the verdict on constraint c, whose shadow price is given: its finding, demand, left, the sellers named, and what each portfolio withholds.
-pub(crate) fn judge_into<'a>(
-    sellers: &'a [u8; Interval::MAX_RESOURCES],
+// Puts the verdict on constraint c: its finding, demand, left, the sellers named, and what each portfolio withholds.
+pub(crate) fn judge_into(
+    sellers: &[u8; Interval::MAX_RESOURCES],
     ports: usize,
-    shadow: i64,
-    factors: &'a [i64],
-    outputs: &'a [i64],
-    resources: usize,
+    asked: &LentInterval,
     c: usize,
     verdicts: &mut [i64; rules_state::VERDICT_ROOM],
 )
-    requires { SoundOver factors.now outputs.now resources c × Sold sellers.now resources ports }
-    ensures { verdicts.new ≡ sets verdicts.old (verdict_width * c) (verdict_cells (verdict_of (sold_of shadow sellers.now factors.now outputs.now resources c))) }
+    requires { SoundOver asked.now.factors.now asked.now.outputs.now asked.now.resources c × Sold sellers.now asked.now.resources ports }
+    ensures { verdicts.new ≡ sets verdicts.old (verdict_width * c) (verdict_cells (verdict_of (sold_in asked.now sellers.now c))) }
 {
     let at = rules_state::VERDICT_WIDTH * c;
     put_none(verdicts, at);
+    let shadow = cells::cell_at(asked.shadow, c);
     if shadow <= 0 {
         verdicts[at] = 2;
         return;
     }
     let mut offers = [0u64; Market::MAX_PORTFOLIOS];
-    let tally = tally_of(sellers, factors, outputs, resources, c, &mut offers);
+    let tally = tally_of(sellers, asked, c, &mut offers);
     let top = put_sellers(&mut offers, ports, verdicts, at + 4);
     let left = tally.supply - top.total;
     if left < tally.demand {
@@ -201,34 +182,28 @@ fn put_offers(
     ensures { offered.new ≡ sets offered.old at (lack ∷ offers.now) }
 {
     offered[at] = lack;
-    let mut p: usize = 0;
-    while p < Market::MAX_PORTFOLIOS {
-        offered[at + 1 + p] = offers[p];
-        p += 1;
-    }
+    offered[at + 1..at + crate::OFFER_WIDTH].copy_from_slice(offers);
 }
 
-// Puts what net sellers can withhold on constraint c, whose shadow price is given: the least amount that leaves it short, and what each portfolio offers; zeros where it
+// Puts what net sellers can withhold on constraint c: the least amount that leaves it short, and what each portfolio offers; zeros where it
 // doesn't bind.
-pub(crate) fn offer_into<'a>(
-    sellers: &'a [u8; Interval::MAX_RESOURCES],
-    shadow: i64,
-    factors: &'a [i64],
-    outputs: &'a [i64],
-    resources: usize,
+pub(crate) fn offer_into(
+    sellers: &[u8; Interval::MAX_RESOURCES],
+    asked: &LentInterval,
     c: usize,
     offered: &mut [u64; crate::OFFER_ROOM],
 )
-    requires { SoundOver factors.now outputs.now resources c }
-    ensures { offered.new ≡ sets offered.old (offer_width * c) (offered_row (sold_of shadow sellers.now factors.now outputs.now resources c)) }
+    requires { SoundOver asked.now.factors.now asked.now.outputs.now asked.now.resources c }
+    ensures { offered.new ≡ sets offered.old (offer_width * c) (offered_row (sold_in asked.now sellers.now c)) }
 {
     let mut offers = [0u64; Market::MAX_PORTFOLIOS];
     let at = crate::OFFER_WIDTH * c;
+    let shadow = cells::cell_at(asked.shadow, c);
     if shadow <= 0 {
         put_offers(offered, at, 0, &offers);
         return;
     }
-    let tally = tally_of(sellers, factors, outputs, resources, c, &mut offers);
+    let tally = tally_of(sellers, asked, c, &mut offers);
     let lack = tally.supply + 1 - tally.demand;
     put_offers(offered, at, lack, &offers);
 }

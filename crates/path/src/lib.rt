@@ -3,11 +3,12 @@
 
 mod constraint;
 
-ghost use Rattle.std.specs.Prelude.{◌≡◌, ◌≤◌, ◌<◌, length};
+ghost use Rattle.std.specs.Prelude.{◌≡◌, ◌≤◌, ◌<◌, length, IfOk, IfSome};
+ghost use Rattle.std.specs.Option.{unwrap_or};
 ghost use Rattle.std.proofs.lemmas.List.Edits.{sets};
 ghost use Rattle.rules_curve.specs.Refusals.{outcome_number};
 ghost use Rattle.rules_interval.specs.Intervals.{interval_refusal};
-ghost use Rattle.interval.specs.Over.{interval_over};
+ghost use Rattle.interval.specs.Over.{lent_interval};
 ghost use Rattle.rules_path.specs.Paths.{largest};
 ghost use Rattle.rules_state.specs.Layout.{most_resources};
 ghost use Rattle.rules_state.specs.States.{market_in};
@@ -16,7 +17,8 @@ ghost use Rattle.rules_state.specs.Verdicts.{judged_cells};
 ghost use Rattle.path.specs.Offered.{offered_cells};
 ghost use Rattle.path.specs.Tallies.{SellersIn, Sold, seller_of};
 
-use rules_curve::Outcome;
+use interval::LentInterval;
+use rules_curve::Refusal;
 use rules_interval::Interval;
 use rules_path::Market;
 
@@ -32,120 +34,92 @@ pub fn largest_of(w: &[u64; Market::MAX_PORTFOLIOS]) -> usize
     constraint::largest_to(w, Market::MAX_PORTFOLIOS)
 }
 
-// The portfolio of resource r where that is a net seller, else 16.
-fn seller_of(state: &[i64], r: usize) -> usize
+// The portfolio of resource r where that is a net seller.
+fn seller_of(state: &[i64], r: usize) -> Option<usize>
     requires { r < most_resources }
-    ensures { (result ≡ seller_of (market_in state.now) r) × (result ≤ 16) }
+    ensures seller { unwrap_or result 16 ≡ seller_of (market_in state.now) r }
+    ensures few { IfSome result (λ p. p < 16) }
 {
     let p = cells::whole_at(state, rules_state::MARKET_FROM + 1 + r) as usize;
     if Market::MAX_PORTFOLIOS <= p {
-        return Market::MAX_PORTFOLIOS;
+        return None;
     }
     let mark = cells::cell_at(
         state,
         rules_state::MARKET_FROM + 1 + Interval::MAX_RESOURCES + p,
     );
     if mark == 1 {
-        return p;
+        return Some(p);
     }
-    Market::MAX_PORTFOLIOS
+    None
 }
 
-// The same of each of the first n resources; and 1 more than the highest net seller among them, 0 where there is none.
+// The net seller of each of the first n resources, or 16, a byte each, as the pass over the resources reads them; and 1 more than the highest of them, 0 where there is none.
 fn sellers_in(state: &[i64], n: usize, sellers: &mut [u8; Interval::MAX_RESOURCES]) -> usize
     requires { (n ≤ most_resources) × (length sellers.old ≡ most_resources) }
     ensures sellers { SellersIn (market_in state.now) n sellers.new }
     ensures ports { Sold sellers.new n result }
 {
     let mut ports: usize = 0;
-    let mut r: usize = 0;
-    while r < n {
-        let p = seller_of(state, r);
-        sellers[r] = p as u8;
-        if p < Market::MAX_PORTFOLIOS {
-            if ports <= p {
-                ports = p + 1;
-            }
+    for r in 0..n {
+        if let Some(p) = seller_of(state, r) {
+            sellers[r] = p as u8;
+            ports = ports.max(p + 1);
+        } else {
+            sellers[r] = 16;
         }
-        r += 1;
     }
     ports
 }
 
+// The same of the resources of an interval of these values; or the lowest of refusals 13 to 16 that applies.
+#[tactic(auto, unfolding(rules_state::specs::States::market_in))]
+fn checked_sellers(
+    state: &[i64],
+    asked: &LentInterval,
+    sellers: &mut [u8; Interval::MAX_RESOURCES],
+) -> Result<usize, Refusal>
+    ensures number { outcome_number result ≡ interval_refusal (market_in state.now).resources (lent_interval asked.now) }
+    ensures sellers { IfOk result (λ ports. SellersIn (market_in state.now) asked.now.resources sellers.new × Sold sellers.new asked.now.resources ports) }
+{
+    let known = cells::whole_at(state, rules_state::MARKET_FROM) as usize;
+    interval::checked(known, asked)?;
+    let ports = sellers_in(state, asked.resources, sellers);
+    Ok(ports)
+}
+
 // The verdicts on the constraints of an interval of these values in the market that cells stand for, put at the front of `verdicts`; or the lowest of refusals 13 to 16
 // that applies, and `verdicts` as it was. A number past the end of a slice is 0.
-pub fn judged_into<'a>(
-    state: &'a [i64],
-    constraints: usize,
-    shadow: &'a [i64],
-    resources: usize,
-    outputs: &'a [i64],
-    factors: &'a [i64],
-    parameter: i64,
+pub fn judged_into(
+    state: &[i64],
+    asked: &LentInterval,
     verdicts: &mut [i64; rules_state::VERDICT_ROOM],
-) -> Outcome
-    ensures number { outcome_number result ≡ interval_refusal (market_in state.now).resources (interval_over constraints shadow.now resources outputs.now factors.now parameter) }
-    ensures verdicts { verdicts.new ≡ if_accepted (interval_refusal (market_in state.now).resources (interval_over constraints shadow.now resources outputs.now factors.now parameter)) (sets verdicts.old 0 (judged_cells (market_in state.now) (interval_over constraints shadow.now resources outputs.now factors.now parameter))) verdicts.old }
+) -> Result<(), Refusal>
+    ensures number { outcome_number result ≡ interval_refusal (market_in state.now).resources (lent_interval asked.now) }
+    ensures verdicts { verdicts.new ≡ if_accepted (interval_refusal (market_in state.now).resources (lent_interval asked.now)) (sets verdicts.old 0 (judged_cells (market_in state.now) (lent_interval asked.now))) verdicts.old }
 {
-    let n = cells::whole_at(state, rules_state::MARKET_FROM) as usize;
-    let outcome = interval::checked(
-        n,
-        constraints,
-        shadow,
-        resources,
-        outputs,
-        factors,
-        parameter,
-    );
-    let Outcome::Accepted = outcome else {
-        return outcome;
-    };
     let mut sellers = [16u8; Interval::MAX_RESOURCES];
-    let ports = sellers_in(state, n, &mut sellers);
-    let mut c: usize = 0;
-    while c < constraints {
-        let price = cells::cell_at(shadow, c);
-        constraint::judge_into(&sellers, ports, price, factors, outputs, n, c, verdicts);
-        c += 1;
+    let ports = checked_sellers(state, asked, &mut sellers)?;
+    for c in 0..asked.constraints {
+        constraint::judge_into(&sellers, ports, asked, c, verdicts);
     }
-    outcome
+    Ok(())
 }
 
 // What net sellers can withhold on the constraints of an interval of these values in the market that cells stand for, put at the front of `offered`; or the lowest of
 // refusals 13 to 16 that applies, and `offered` as it was. A number past the end of a slice is 0.
-pub fn offered_into<'a>(
-    state: &'a [i64],
-    constraints: usize,
-    shadow: &'a [i64],
-    resources: usize,
-    outputs: &'a [i64],
-    factors: &'a [i64],
-    parameter: i64,
+pub fn offered_into(
+    state: &[i64],
+    asked: &LentInterval,
     offered: &mut [u64; OFFER_ROOM],
-) -> Outcome
-    ensures number { outcome_number result ≡ interval_refusal (market_in state.now).resources (interval_over constraints shadow.now resources outputs.now factors.now parameter) }
-    ensures offered { offered.new ≡ if_accepted (interval_refusal (market_in state.now).resources (interval_over constraints shadow.now resources outputs.now factors.now parameter)) (sets offered.old 0 (offered_cells (market_in state.now) (interval_over constraints shadow.now resources outputs.now factors.now parameter))) offered.old }
+) -> Result<(), Refusal>
+    ensures number { outcome_number result ≡ interval_refusal (market_in state.now).resources (lent_interval asked.now) }
+    ensures offered { offered.new ≡ if_accepted (interval_refusal (market_in state.now).resources (lent_interval asked.now)) (sets offered.old 0 (offered_cells (market_in state.now) (lent_interval asked.now))) offered.old }
 {
-    let n = cells::whole_at(state, rules_state::MARKET_FROM) as usize;
-    let outcome = interval::checked(
-        n,
-        constraints,
-        shadow,
-        resources,
-        outputs,
-        factors,
-        parameter,
-    );
-    let Outcome::Accepted = outcome else {
-        return outcome;
-    };
     let mut sellers = [16u8; Interval::MAX_RESOURCES];
-    sellers_in(state, n, &mut sellers);
-    let mut c: usize = 0;
-    while c < constraints {
-        let price = cells::cell_at(shadow, c);
-        constraint::offer_into(&sellers, price, factors, outputs, n, c, offered);
-        c += 1;
+    checked_sellers(state, asked, &mut sellers)?;
+    for c in 0..asked.constraints {
+        constraint::offer_into(&sellers, asked, c, offered);
     }
-    outcome
+    Ok(())
 }

@@ -3,7 +3,7 @@ use mathlib.Core.Bool.{Bool, true, false}
 use mathlib.Core.List.{List}
 use mathlib.Core.Logic.{⊎_elim}
 use mathlib.Core.Path.{◌≡◌, refl, sym, ap, ◌∙◌}
-use Prim.Native.Nat.{ℕ, zero, suc, ◌+◌, ◌*◌, ◌≤◌, ◌<◌, zero-le}
+use Prim.Native.Nat.{ℕ, zero, suc, ◌+◌, ◌*◌, ◌≤◌, ◌<◌, zero-le, max}
 use native.Mathlib.Nat.{le_refl, le_trans, le_of_eq, add_assoc}
 use native.Mathlib.Numerals.{add-one}
 use native.Mathlib.Omega.{arith}
@@ -88,13 +88,9 @@ module _ (rows : List ℕ) (c : ℕ) where
     taken_le b h p = rw t.left (le_trans (left_le k (offers_at rows c) p) (h p))
 
 -- ---- the largest of the needs
-pub floor_more : (rows : List ℕ) (n floor need : ℕ) → floor ≡ floor_on rows n → need ≡ need_at rows n → floor < need → need ≡ floor_on rows (n + 1)
+pub floor_next : (rows : List ℕ) (n floor need : ℕ) → floor ≡ floor_on rows n → need ≡ need_at rows n → (r : ℕ) → r ≡ max floor need → r ≡ floor_on rows (n + 1)
 unfolding floor_on most_to
-floor_more rows n floor need e f l = rw (add-one n) (omega arith)
-
-pub floor_kept : (rows : List ℕ) (n floor need : ℕ) → floor ≡ floor_on rows n → need ≡ need_at rows n → need ≤ floor → floor ≡ floor_on rows (n + 1)
-unfolding floor_on most_to
-floor_kept rows n floor need e f l = rw (add-one n) (omega arith)
+floor_next rows n floor need e f r z = rw (add-one n) (omega arith)
 
 -- ---- no offer is above the limit of the rows
 pub offers_held : (rows : List ℕ) (c : ℕ) → Held rows → (i : ℕ) → at (offers_at rows c) i ≤ 64000000000001

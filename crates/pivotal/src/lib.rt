@@ -2,7 +2,8 @@
 // rules_pivotal.
 #![tactic(auto)]
 
-ghost use Rattle.std.specs.Prelude.{◌≡◌, true, ◌≤◌, ◌<◌, leb, pos};
+ghost use Rattle.std.specs.Prelude.{◌≡◌, true, ◌≤◌, ◌<◌, leb, pos, IfOk};
+ghost use Rattle.std.specs.Result.{result_unwrap_or};
 ghost use Rattle.std.specs.Int.Count.{ones};
 ghost use Rattle.std.specs.Int.Signed.{lt_z};
 ghost use Rattle.rules_curve.specs.Refusals.{outcome_number};
@@ -10,20 +11,14 @@ ghost use Rattle.rules_pivotal.specs.Searches.{better_of, searched};
 ghost use Rattle.rules_pivotal.specs.Pivotals.{net_sellers, any_to, none_found, pivotal_refusal, pivotal_of};
 ghost use Rattle.rules_library.specs.Slices.{cell_at};
 ghost use Rattle.rules_state.specs.States.{market_in};
-ghost use Rattle.interval.specs.Over.{interval_over};
+ghost use Rattle.interval.specs.Over.{lent_interval};
 ghost use Rattle.pivotal.specs.Rows.{Held, lack_at, part_of, withheld_at, works_on, offers_at, need_at, floor_on, Floor, pivotal_on};
 
-use rules_curve::{Outcome, Refusal};
+use interval::LentInterval;
+use rules_curve::Refusal;
 use rules_interval::Interval;
 use rules_path::Market;
-use rules_pivotal::{Best, Found, Pivotal};
-
-// What the search answers: what it found, or a refusal and nothing.
-#[derive(Clone, Copy)]
-pub struct Answer {
-    pub outcome: Outcome,
-    pub found: Pivotal,
-}
+use rules_pivotal::{Found, Pivotal};
 
 // The amount, where portfolio p is in the set s.
 fn part_of(s: u32, p: usize, amount: u64) -> u64
@@ -40,10 +35,8 @@ fn withheld_by(s: u32, rows: &[u64; path::OFFER_ROOM], c: usize) -> u64
 {
     let from = path::OFFER_WIDTH * c + 1;
     let mut sum: u64 = 0;
-    let mut p: usize = 0;
-    while p < Market::MAX_PORTFOLIOS {
+    for p in 0..Market::MAX_PORTFOLIOS {
         sum += part_of(s, p, rows[from + p]);
-        p += 1;
     }
     sum
 }
@@ -65,12 +58,10 @@ fn works(s: u32, rows: &[u64; path::OFFER_ROOM], n: usize) -> bool
     requires { (n ≤ 32) × Held rows.now }
     ensures { result ≡ works_on rows.now n s }
 {
-    let mut c: usize = 0;
-    while c < n {
+    for c in 0..n {
         if !is_short(s, rows, c) {
             return false;
         }
-        c += 1;
     }
     true
 }
@@ -97,9 +88,8 @@ fn search(sellers: u32, budget: u64, floor: u32, rows: &[u64; path::OFFER_ROOM],
 {
     let mut best = sellers;
     let mut tried: u64 = 0;
-    let mut s: u32 = 0;
-    while s < sellers {
-        s += 1;
+    for last in 0..sellers {
+        let s = last + 1;
         if s & sellers == s {
             if tried < budget {
                 best = better(s, best, floor, rows, n);
@@ -117,11 +107,7 @@ fn offers_at(rows: &[u64; path::OFFER_ROOM], c: usize) -> [u64; Market::MAX_PORT
 {
     let from = path::OFFER_WIDTH * c + 1;
     let mut offers = [0u64; Market::MAX_PORTFOLIOS];
-    let mut p: usize = 0;
-    while p < Market::MAX_PORTFOLIOS {
-        offers[p] = rows[from + p];
-        p += 1;
-    }
+    offers.copy_from_slice(&rows[from..from + Market::MAX_PORTFOLIOS]);
     offers
 }
 
@@ -133,17 +119,15 @@ fn need_of(rows: &[u64; path::OFFER_ROOM], c: usize) -> u32
     let lack = rows[path::OFFER_WIDTH * c];
     let mut offers = offers_at(rows, c);
     let mut sum: u64 = 0;
-    let mut k: u32 = 0;
-    while k < 16 {
+    for k in 0..16 {
         if lack <= sum {
             return k;
         }
         let p = path::largest_of(&offers);
         sum += offers[p];
         offers[p] = 0;
-        k += 1;
     }
-    k
+    16
 }
 
 // The largest count that one of n constraints alone needs.
@@ -152,13 +136,8 @@ fn floor_of(rows: &[u64; path::OFFER_ROOM], n: usize) -> u32
     ensures { result ≡ floor_on rows.now n }
 {
     let mut floor: u32 = 0;
-    let mut c: usize = 0;
-    while c < n {
-        let need = need_of(rows, c);
-        if floor < need {
-            floor = need;
-        }
-        c += 1;
+    for c in 0..n {
+        floor = floor.max(need_of(rows, c));
     }
     floor
 }
@@ -169,12 +148,10 @@ fn net_sellers(state: &[i64]) -> u32
 {
     let from = rules_state::MARKET_FROM + 1 + Interval::MAX_RESOURCES;
     let mut set: u32 = 0;
-    let mut p: usize = 0;
-    while p < Market::MAX_PORTFOLIOS {
+    for p in 0..Market::MAX_PORTFOLIOS {
         if cells::whole_at(state, from + p) == 1 {
             set += 1 << p;
         }
-        p += 1;
     }
     set
 }
@@ -183,12 +160,10 @@ fn net_sellers(state: &[i64]) -> u32
 fn any_binds(shadow: &[i64], n: usize) -> bool
     ensures { result ≡ any_to (λ c. lt_z (pos 0) (cell_at shadow.now c)) n }
 {
-    let mut c: usize = 0;
-    while c < n {
+    for c in 0..n {
         if 0 < cells::cell_at(shadow, c) {
             return true;
         }
-        c += 1;
     }
     false
 }
@@ -200,7 +175,7 @@ fn found_in(sellers: u32, budget: u64, rows: &[u64; path::OFFER_ROOM], n: usize)
 {
     if !works(sellers, rows, n) {
         return Pivotal {
-            best: Best::None,
+            best: None,
             tried: 0,
             floor: 0,
         };
@@ -208,66 +183,28 @@ fn found_in(sellers: u32, budget: u64, rows: &[u64; path::OFFER_ROOM], n: usize)
     let floor = floor_of(rows, n);
     let found = search(sellers, budget, floor, rows, n);
     Pivotal {
-        best: Best::Set(found.best),
+        best: Some(found.best),
         tried: found.tried,
         floor: floor as u64,
     }
 }
 
-// A refusal and nothing found.
-fn refused(outcome: Outcome) -> Answer
-    ensures { (result.outcome ≡ outcome) × (result.found ≡ none_found) }
-{
-    Answer {
-        outcome,
-        found: Pivotal {
-            best: Best::None,
-            tried: 0,
-            floor: 0,
-        },
-    }
-}
-
 // The fewest net sellers whose full withholding leaves every binding constraint of an interval of these values short, in the market that cells stand for; or the lowest of 13 to
 // 16 that applies, and 26 where no constraint binds. The cells are only read. A number past the end of a slice is 0.
-pub fn found<'a>(
-    state: &'a [i64],
-    constraints: usize,
-    shadow: &'a [i64],
-    resources: usize,
-    outputs: &'a [i64],
-    factors: &'a [i64],
-    parameter: i64,
-    budget: u64,
-) -> Answer
+pub fn found(state: &[i64], asked: &LentInterval, budget: u64) -> Result<Pivotal, Refusal>
     ensures number { let market = market_in state.now in
-        let interval = interval_over constraints shadow.now resources outputs.now factors.now parameter in
-        outcome_number result.outcome ≡ pivotal_refusal market interval }
+        let interval = lent_interval asked.now in
+        outcome_number result ≡ pivotal_refusal market interval }
     ensures found { let market = market_in state.now in
-        let interval = interval_over constraints shadow.now resources outputs.now factors.now parameter in
-        result.found ≡ pivotal_of market interval budget }
-    ensures in_budget { result.found.tried ≤ budget }
+        let interval = lent_interval asked.now in
+        result_unwrap_or result none_found ≡ pivotal_of market interval budget }
+    ensures in_budget { IfOk result (λ f. f.tried ≤ budget) }
 {
     let mut rows = [0u64; path::OFFER_ROOM];
-    let outcome = path::offered_into(
-        state,
-        constraints,
-        shadow,
-        resources,
-        outputs,
-        factors,
-        parameter,
-        &mut rows,
-    );
-    let Outcome::Accepted = outcome else {
-        return refused(outcome);
-    };
-    if !any_binds(shadow, constraints) {
-        return refused(Outcome::Refused(Refusal::NothingBinds));
+    path::offered_into(state, asked, &mut rows)?;
+    if !any_binds(asked.shadow, asked.constraints) {
+        return Err(Refusal::NothingBinds);
     }
     let sellers = net_sellers(state);
-    Answer {
-        outcome,
-        found: found_in(sellers, budget, &rows, constraints),
-    }
+    Ok(found_in(sellers, budget, &rows, asked.constraints))
 }

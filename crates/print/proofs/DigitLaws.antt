@@ -7,8 +7,8 @@ use mathlib.Core.List.{List, [], ◌∷◌, ◌++◌, append_assoc}
 use native.Mathlib.Omega.{arith}
 use native.Mathlib.Nat.{mod-lt, pow-suc}
 use lib.Bits.{bit_and, and_block, and_mask}
-use lib.ListN.{length, take, drop, get_or, set, length-append, drop_of_length-le}
-use lib.Seq.{sets, set-set, take_all}
+use lib.ListN.{length, drop, get_or, set, length-append, drop_of_length-le}
+use lib.Seq.{sets, set-set}
 use lib.IntN.{ℤ, pos, negsuc, nat_abs}
 use lib.Signed.{lt_z}
 use Rattle.rules_number.proofs.OverLaws.{never, le_or_lt}
@@ -209,17 +209,17 @@ pub own_size : (x : ℤ) → lt_z x (pos 0) ≡ false → pos (nat_abs x) ≡ x
 own_size (pos n) e = refl
 own_size (negsuc n) e = never (sym e)
 
-all_five : (v : Row) → length v ≡ 5 → v ≡ (get_or v 0 (pos 0) ∷ get_or v 1 (pos 0) ∷ get_or v 2 (pos 0) ∷ get_or v 3 (pos 0) ∷ get_or v 4 (pos 0) ∷ [])
+pub all_four : (v : Row) → length v ≡ 4 → v ≡ (get_or v 0 (pos 0) ∷ get_or v 1 (pos 0) ∷ get_or v 2 (pos 0) ∷ get_or v 3 (pos 0) ∷ [])
+all_four v n =
+    let end : drop 4 v ≡ [] = drop_of_length-le v {i = 4} (omega arith) in
+    let put : (i : ℕ) (t : Row) → i < 4 → drop (i + 1) v ≡ t → drop i v ≡ get_or v i (pos 0) ∷ t = λ i t h e. at_cons (pos 0) v i (omega arith) ∙ ap (λ (r : Row). get_or v i (pos 0) ∷ r) e in
+    put 0 _ (omega arith) (put 1 _ (omega arith) (put 2 _ (omega arith) (put 3 _ (omega arith) end)))
+
+pub all_five : (v : Row) → length v ≡ 5 → v ≡ (get_or v 0 (pos 0) ∷ get_or v 1 (pos 0) ∷ get_or v 2 (pos 0) ∷ get_or v 3 (pos 0) ∷ get_or v 4 (pos 0) ∷ [])
 all_five v n =
     let end : drop 5 v ≡ [] = drop_of_length-le v {i = 5} (omega arith) in
     let put : (i : ℕ) (t : Row) → i < 5 → drop (i + 1) v ≡ t → drop i v ≡ get_or v i (pos 0) ∷ t = λ i t h e. at_cons (pos 0) v i (omega arith) ∙ ap (λ (r : Row). get_or v i (pos 0) ∷ r) e in
     put 0 _ (omega arith) (put 1 _ (omega arith) (put 2 _ (omega arith) (put 3 _ (omega arith) (put 4 _ (omega arith) end))))
-
-pub first_four : (v : Row) → length v ≡ 5 → take 4 v ≡ (get_or v 0 (pos 0) ∷ get_or v 1 (pos 0) ∷ get_or v 2 (pos 0) ∷ get_or v 3 (pos 0) ∷ [])
-first_four v n = ap (take 4) (all_five v n)
-
-pub first_five : (v : Row) (k : ℕ) → length v ≡ 5 → 5 ≤ k → take k v ≡ (get_or v 0 (pos 0) ∷ get_or v 1 (pos 0) ∷ get_or v 2 (pos 0) ∷ get_or v 3 (pos 0) ∷ get_or v 4 (pos 0) ∷ [])
-first_five v k n h = take_all k v (omega arith) ∙ all_five v n
 
 abbrev pub head : ℕ → ℕ → List ℕ
 head a b = digits 19 a ++ (32 ∷ (digits 19 b ++ (32 ∷ [])))

@@ -6,17 +6,7 @@ ghost use Rattle.std.proofs.lemmas.List.Edits.{sets};
 ghost use Rattle.std.specs.Int.Signed.{lt_z};
 ghost use Rattle.rules_text.specs.Printing.{digits, decimal, line_text, holds, printed, printed_to};
 
-use rules_text::Printed;
 use text_bytes::closing;
-
-fn magnitude(x: i64) -> u64
-    ensures { result ≡ nat_abs x }
-{
-    if x < 0 {
-        return (-(x + 1)) as u64 + 1;
-    }
-    x as u64
-}
 
 // How many digits n has.
 fn digit_count(n: u64) -> usize
@@ -47,7 +37,7 @@ fn digit(d: u64) -> u8
     48 + d as u8
 }
 
-// Puts the digits of n at an offset, two at a time from the last on, and answers the offset after them.
+// Puts the digits of n at an offset, two at a time from the last on (so by index, at a stride of two), and answers the offset after them.
 fn put_digits(out: &mut [u8], at: usize, n: u64) -> usize
     requires n_bound { n < 10 ^ 19 }
     requires n_in_bounds { at + length (digits 19 n) ≤ length out.old }
@@ -76,6 +66,9 @@ fn low(w: u64) -> u8
 {
     (w % 256) as u8
 }
+
+// From here to put_head, numbers are put by how many digits they have, with no loop up to eight and four digits by one store: a page is mostly numbers, and
+// printing one has a bar of speed.
 
 // Puts the four lowest bytes of w at an offset, the lowest first: one store.
 fn put_word(out: &mut [u8], at: usize, w: u64)
@@ -243,9 +236,9 @@ fn put_value(out: &mut [u8], at: usize, x: i64, end: u8) -> usize
 {
     if x < 0 {
         out[at] = 45;
-        return put_closed(out, at + 1, magnitude(x), end);
+        return put_closed(out, at + 1, x.unsigned_abs(), end);
     }
-    put_closed(out, at, magnitude(x), end)
+    put_closed(out, at, x.unsigned_abs(), end)
 }
 
 // The same, at once where it has one digit.
@@ -254,7 +247,7 @@ fn put_mark(out: &mut [u8], at: usize, x: i64, end: u8) -> usize
     ensures { (out.new ≡ sets out.old at (decimal x ++ (end ∷ []))) × (result ≡ at + length (decimal x) + 1) }
 {
     if is_below(x, 10) {
-        return put_digit(out, at, magnitude(x), end);
+        return put_digit(out, at, x.unsigned_abs(), end);
     }
     put_value(out, at, x, end)
 }
@@ -295,7 +288,7 @@ fn put_step(out: &mut [u8], at: usize, a: u64, b: u64, c: i64, d: i64) -> usize
     put_value(out, q, d, 10)
 }
 
-// The same of five values, most of which have one digit where a constraint doesn't bind.
+// The same of five values, most of which have one digit where a constraint doesn't bind: unlike put_step's, they are tested for it first, for speed.
 fn put_five(out: &mut [u8], at: usize, a: u64, b: u64, c: i64, d: i64, e: i64) -> usize
     requires { (a < 10) × (b < 100) × (at + 105 ≤ length out.old) }
     ensures { (out.new ≡ sets out.old at (line_text (pos a ∷ pos b ∷ c ∷ d ∷ e ∷ []))) × (result ≡ at + length (line_text (pos a ∷ pos b ∷ c ∷ d ∷ e ∷ []))) }
@@ -306,18 +299,14 @@ fn put_five(out: &mut [u8], at: usize, a: u64, b: u64, c: i64, d: i64, e: i64) -
     put_mark(out, n, e, 10)
 }
 
-// Puts the line of the first k values at an offset, and answers the offset after it.
-fn put_line(out: &mut [u8], at: usize, v: [i64; 5], k: usize) -> usize
-    requires k_bound { k ≤ 5 }
-    requires v_in_bounds { at + length (line_text (take k v)) ≤ length out.old }
-    ensures { (out.new ≡ sets out.old at (line_text (take k v))) × (result ≡ at + length (line_text (take k v))) }
+// Puts the line of the values at an offset, and answers the offset after it.
+fn put_line(out: &mut [u8], at: usize, v: &[i64]) -> usize
+    requires { at + length (line_text v.now) ≤ length out.old }
+    ensures { (out.new ≡ sets out.old at (line_text v.now)) × (result ≡ at + length (line_text v.now)) }
 {
     let mut p = at;
-    let mut i = 0;
-    while i < k {
-        let x = v[i];
-        p = put_value(out, p, x, closing(k - i - 1));
-        i += 1;
+    for (i, x) in v.iter().enumerate() {
+        p = put_value(out, p, *x, closing(v.len() - i - 1));
     }
     p
 }
@@ -327,108 +316,90 @@ fn put_bytes(out: &mut [u8], at: usize, bytes: &[u8]) -> usize
     requires { at + length bytes.now ≤ length out.old }
     ensures { (out.new ≡ sets out.old at bytes.now) × (result ≡ at + length bytes.now) }
 {
-    let mut i = 0;
-    while i < bytes.len() {
-        out[at + i] = bytes[i];
-        i += 1;
-    }
-    at + i
+    let end = at + bytes.len();
+    out[at..end].copy_from_slice(bytes);
+    end
 }
 
 // How many bytes a number takes.
 fn number_width(x: i64) -> usize
     ensures { result ≡ length (decimal x) }
 {
-    let count = digit_count(magnitude(x));
+    let count = digit_count(x.unsigned_abs());
     if x < 0 { 1 + count } else { count }
 }
 
-// How many bytes the line of the first k values takes.
-fn line_width(v: [i64; 5], k: usize) -> usize
-    requires { k ≤ 5 }
-    ensures { result ≡ length (line_text (take k v)) }
+// Whether the line of the values fits in as many bytes.
+fn line_within(room: usize, v: &[i64]) -> bool
+    ensures { result ≡ leb (length (line_text v.now)) room }
 {
-    let mut width = 0;
-    let mut i = 0;
-    while i < k {
-        let x = v[i];
-        width = width + number_width(x) + 1;
-        i += 1;
+    let mut left = room;
+    for x in v {
+        let width = number_width(*x) + 1;
+        if left < width {
+            return false;
+        }
+        left -= width;
     }
-    width
+    true
 }
 
-// Whether the line of the first k values fits. None has more than 105 bytes: five numbers of up to 20, and what closes each.
-fn line_fits(size: usize, at: usize, v: [i64; 5], k: usize) -> bool
-    requires { k ≤ 5 }
-    ensures { result ≡ leb (at + length (line_text (take k v))) size }
+// Whether the line of the values fits. None of up to five has more than 105 bytes: five numbers of up to 20, and what closes each.
+fn line_fits(size: usize, at: usize, v: &[i64]) -> bool
+    ensures { result ≡ leb (at + length (line_text v.now)) size }
 {
-    if number::has_room(size, at, 105) {
+    if v.len() <= 5 && number::has_room(size, at, 105) {
         return true;
     }
-    number::has_room(size, at, line_width(v, k))
+    at <= size && line_within(size - at, v)
 }
 
-// Prints the line of the first k values at an offset, where it fits, whatever they are.
-fn print_any(out: &mut [u8], at: usize, v: [i64; 5], k: usize) -> Printed
-    ensures out_after { out.new ≡ printed out.old at (line_text (take k v)) }
-    ensures value { result ≡ printed_to out.old at (line_text (take k v)) }
+// Prints the line of the values at an offset, where it fits, whatever they are.
+fn print_any(out: &mut [u8], at: usize, v: &[i64]) -> Option<usize>
+    ensures out_after { out.new ≡ printed out.old at (line_text v.now) }
+    ensures value { result ≡ printed_to out.old at (line_text v.now) }
 {
-    let n = number::at_most(k, 5);
-    if !line_fits(out.len(), at, v, n) {
-        return Printed::Full;
+    if !line_fits(out.len(), at, v) {
+        return None;
     }
-    Printed::To(put_line(out, at, v, n))
+    Some(put_line(out, at, v))
 }
 
 // Whether x is a number of 0 to n - 1.
 fn is_below(x: i64, n: u64) -> bool
     ensures { result ≡ true → (lt_z x (pos 0) ≡ false) × (nat_abs x < n) }
 {
-    if x < 0 {
-        return false;
-    }
-    magnitude(x) < n
+    0 <= x && x.unsigned_abs() < n
 }
 
-// Whether a line of five values has room, and begins with a digit and one digit more or two.
+// Whether a line of up to five values has room, and begins with a digit and one digit more or two.
 fn has_head(size: usize, at: usize, a: i64, b: i64) -> bool
     ensures at_bound { result ≡ true → at + 105 ≤ size }
     ensures pos_value { result ≡ true → (lt_z a (pos 0) ≡ false) × (nat_abs a < 10) }
     ensures pos_value_2 { result ≡ true → (lt_z b (pos 0) ≡ false) × (nat_abs b < 100) }
 {
-    if size < 105 {
-        return false;
-    }
-    if size - 105 < at {
-        return false;
-    }
-    if !is_below(a, 10) {
-        return false;
-    }
-    is_below(b, 100)
+    number::has_room(size, at, 105) && is_below(a, 10) && is_below(b, 100)
 }
 
-// Prints the line of the first k values at an offset, where it fits.
-pub fn print_line(out: &mut [u8], at: usize, v: [i64; 5], k: usize) -> Printed
-    ensures out_after { out.new ≡ printed out.old at (line_text (take k v)) }
-    ensures value { result ≡ printed_to out.old at (line_text (take k v)) }
+// Prints the line of the values at an offset, where it fits.
+pub fn print_line(out: &mut [u8], at: usize, v: &[i64]) -> Option<usize>
+    ensures out_after { out.new ≡ printed out.old at (line_text v.now) }
+    ensures value { result ≡ printed_to out.old at (line_text v.now) }
 {
-    let a = v[0];
-    let b = v[1];
-    let c = v[2];
-    let d = v[3];
-    let e = v[4];
-    if k < 4 {
-        return print_any(out, at, v, k);
+    match v {
+        [a, b, c, d] if has_head(out.len(), at, *a, *b) => Some(put_step(
+            out,
+            at,
+            a.unsigned_abs(),
+            b.unsigned_abs(),
+            *c,
+            *d,
+        )),
+        [a, b, c, d, e] if has_head(out.len(), at, *a, *b) => {
+            Some(put_five(out, at, a.unsigned_abs(), b.unsigned_abs(), *c, *d, *e))
+        }
+        _ => print_any(out, at, v),
     }
-    if !has_head(out.len(), at, a, b) {
-        return print_any(out, at, v, k);
-    }
-    if k == 4 {
-        return Printed::To(put_step(out, at, magnitude(a), magnitude(b), c, d));
-    }
-    Printed::To(put_five(out, at, magnitude(a), magnitude(b), c, d, e))
 }
 
 // Puts a names line at an offset, where it fits, and answers the offset after it: the same offset where it doesn't.

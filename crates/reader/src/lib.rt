@@ -52,10 +52,7 @@ impl<'a> Reader<'a> {
     pub fn moved(self, at: usize) -> Self
         ensures { (result.text ≡ self.entry.text) × (result.at ≡ at) }
     {
-        Self {
-            text: self.text,
-            at,
-        }
+        Self { at, ..self }
     }
 
     // Opens an hour into its cells by the part at the next line, and hands back the reader at the line after it.
@@ -65,15 +62,17 @@ impl<'a> Reader<'a> {
         ensures state { state.new ≡ part_state (read_opening 0 (left self.entry)) state.old }
         ensures rest { result.number ≡ 0 → left result.reader ≡ lines_then (read_opening 0 (left self.entry)) }
     {
-        let part = part_opened(self.text, self.at, state);
+        let PartOpened {
+            number,
+            line,
+            next,
+            resources,
+        } = part_opened(self.text, self.at, state);
         AfterOpening {
-            reader: Reader {
-                text: self.text,
-                at: part.next,
-            },
-            number: part.number,
-            line: part.line,
-            resources: part.resources,
+            reader: Self { at: next, ..self },
+            number,
+            line,
+            resources,
         }
     }
 
@@ -90,15 +89,17 @@ impl<'a> Reader<'a> {
         ensures verdicts { verdicts.new ≡ verdicts_by state.old verdicts.old (read_interval (min line 65536) (left self.entry)) }
         ensures rest { if_accepted result.number (left result.reader) [] ≡ left_by state.old (read_interval (min line 65536) (left self.entry)) }
     {
-        let part = part_taken(self.text, self.at, line, state, verdicts);
+        let PartTaken {
+            number,
+            line,
+            next,
+            constraints,
+        } = part_taken(self.text, self.at, line, state, verdicts);
         AfterInterval {
-            reader: Reader {
-                text: self.text,
-                at: part.next,
-            },
-            number: part.number,
-            line: part.line,
-            constraints: part.constraints,
+            reader: Self { at: next, ..self },
+            number,
+            line,
+            constraints,
         }
     }
 }
@@ -109,12 +110,17 @@ pub fn opening_of(text: &[u8], state: &mut [i64]) -> PartOpened
     ensures state { state.new ≡ part_state (read_opening 0 (lines text.now)) state.old }
     ensures rest { result.number ≡ 0 → lines (drop result.next text.now) ≡ lines_then (read_opening 0 (lines text.now)) }
 {
-    let after = Reader::new(text).opening(state);
+    let AfterOpening {
+        reader,
+        number,
+        line,
+        resources,
+    } = Reader::new(text).opening(state);
     PartOpened {
-        number: after.number,
-        line: after.line,
-        next: after.reader.at,
-        resources: after.resources,
+        number,
+        line,
+        next: reader.at,
+        resources,
     }
 }
 
@@ -131,11 +137,16 @@ pub fn interval_of(
     ensures verdicts { verdicts.new ≡ verdicts_by state.old verdicts.old (read_interval (min line 65536) (lines (drop at text.now))) }
     ensures rest { if_accepted result.number (lines (drop result.next text.now)) [] ≡ left_by state.old (read_interval (min line 65536) (lines (drop at text.now))) }
 {
-    let after = Reader::new(text).moved(at).interval(line, state, verdicts);
+    let AfterInterval {
+        reader,
+        number,
+        line,
+        constraints,
+    } = Reader::new(text).moved(at).interval(line, state, verdicts);
     PartTaken {
-        number: after.number,
-        line: after.line,
-        next: after.reader.at,
-        constraints: after.constraints,
+        number,
+        line,
+        next: reader.at,
+        constraints,
     }
 }

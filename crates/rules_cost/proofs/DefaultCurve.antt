@@ -1,4 +1,6 @@
 -- The default curve from costs (paper 01, Default curve from costs; Curve): what holds of it for any number of points.
+use Rattle.std.specs.Prelude.{Result}
+use Rattle.std.specs.Result.{result_unwrap_or}
 use mathlib.Core.Bool.{true}
 use mathlib.Core.Path.{◌≡◌, ap, ap₂, sym, ◌∙◌}
 use Prim.Native.Nat.{ℕ, suc, ◌≤◌, ◌<◌}
@@ -12,13 +14,13 @@ use Rattle.rules_number.specs.Over.{listed}
 use Rattle.rules_number.proofs.Kit.{var, lit, neg, le_by, Bd, le_of, true_le}
 use Rattle.rules_number.proofs.OverLaws.{listed_length}
 use Rattle.rules_curve.specs.Refusals.{outcome_number}
-use Rattle.rules_curve.specs.Curves.{most_steps, unless_refused, curve_with, edge_suits, price_suits, count_good, edges_good, prices_good, curve_refusal, default_refusal, highest_default, lowest_default}
+use Rattle.rules_curve.specs.Curves.{most_steps, blank_curve, unless_refused, curve_with, edge_suits, price_suits, count_good, edges_good, prices_good, curve_refusal, default_refusal, highest_default, lowest_default}
 use Rattle.rules_curve.specs.Meaning.{Sound}
 use Rattle.rules_curve.proofs.CheckLaws.{default_checked}
 use Rattle.rules_curve.proofs.ChainLaws.{chain_listed}
 use Rattle.rules_curve.proofs.RawLaws.{raw_step, raw_of, raw_listed, raw_back}
 use Rattle.rules_curve.specs.declared.Curve.{Curve}
-use Rattle.rules_curve.specs.declared.Checked.{Checked}
+use Rattle.rules_curve.specs.declared.Refusal.{Refusal}
 use Rattle.rules_cost.specs.Costs.{mw_at, count_of_steps, end_at, edge_at, rate_at, largest_rate, step_price, raised_price, cost_step, cost_curve, mw_good, prices_in_range, rates_good, cost_refusal}
 use Rattle.rules_number.specs.Least.{IsHighest}
 use Rattle.rules_number.proofs.HighestLaws.{highest_is_highest}
@@ -116,8 +118,8 @@ module _ (c : Costs) (accepted : cost_refusal c ≡ 0) where
       (default_checked lowest_default highest_default (raw_of (curve_with (nat_of (mw_at c 0)) (listed (cost_step c) (count_of_steps c)))) cost_curve_passes)
 
 -- So does what the call hands back, where it accepts.
-pub accepted_curve_passes : (c : Costs) (r : Checked) → outcome_number r.outcome ≡ cost_refusal c → r.curve ≡ unless_refused (cost_refusal c) (cost_curve c)
-    → outcome_number r.outcome ≡ 0 → default_refusal (raw_of r.curve) ≡ 0
+pub accepted_curve_passes : (c : Costs) (r : Result Curve Refusal) → outcome_number r ≡ cost_refusal c → result_unwrap_or r blank_curve ≡ unless_refused (cost_refusal c) (cost_curve c)
+    → outcome_number r ≡ 0 → default_refusal (raw_of (result_unwrap_or r blank_curve)) ≡ 0
 accepted_curve_passes c r number curve accepted =
     let zero = sym number ∙ accepted in
     ap (λ (k : Curve). default_refusal (raw_of k)) (curve ∙ ap (λ (n : ℕ). unless_refused n (cost_curve c)) zero) ∙ cost_curve_passes c zero

@@ -1,4 +1,5 @@
 -- A refusal is its number: no two outcomes have one number, and no refusal has 0. Assumes nothing.
+use Rattle.std.specs.Prelude.{Err, Ok, Result, ⊤}
 use mathlib.Core.List.{List, [], ◌∷◌}
 use mathlib.Core.Logic.{⊎_elim}
 use mathlib.Core.Path.{◌≡◌, refl, sym, ap, ◌∙◌}
@@ -9,20 +10,18 @@ use Rattle.rules_number.proofs.OverLaws.{le_or_lt}
 use Rattle.rules_curve.specs.Refusals.{number_of, outcome_number}
 use Rattle.rules_curve.specs.declared.Refusal.{Refusal}
 use Rattle.rules_curve.specs.declared.Refusal.TheVariants.{StepCount, Edge, Price, PointCount, Quantity, HeatRate, CostRange, IncrementalRate, Counts, Membership, OutsideDefault, HourFull, ResourceCount, ConstraintCount, IntervalRange, Output, Form, Length, PassTurn, HourOpen, GasBook, PartsApart, PartsTogether, TradingDay, NothingBinds}
-use Rattle.rules_curve.specs.declared.Outcome.{Outcome}
-use Rattle.rules_curve.specs.declared.Outcome.TheVariants.{Accepted, Refused}
 
 -- the outcomes by number; 22 is no number of the engine
-outcomes : List Outcome
+outcomes : List (Result ⊤ Refusal)
 outcomes =
-    Accepted ∷ Refused StepCount ∷ Refused Edge ∷ Refused Price ∷ Refused PointCount ∷ Refused Quantity ∷ Refused HeatRate ∷ Refused CostRange
-    ∷ Refused IncrementalRate ∷ Refused Counts ∷ Refused Membership ∷ Refused OutsideDefault ∷ Refused HourFull ∷ Refused ResourceCount
-    ∷ Refused ConstraintCount ∷ Refused IntervalRange ∷ Refused Output ∷ Refused Form ∷ Refused Length ∷ Refused PassTurn
-    ∷ Refused HourOpen ∷ Refused GasBook ∷ Accepted ∷ Refused PartsApart ∷ Refused PartsTogether ∷ Refused TradingDay
-    ∷ Refused NothingBinds ∷ []
+    (Ok tt) ∷ Err StepCount ∷ Err Edge ∷ Err Price ∷ Err PointCount ∷ Err Quantity ∷ Err HeatRate ∷ Err CostRange
+    ∷ Err IncrementalRate ∷ Err Counts ∷ Err Membership ∷ Err OutsideDefault ∷ Err HourFull ∷ Err ResourceCount
+    ∷ Err ConstraintCount ∷ Err IntervalRange ∷ Err Output ∷ Err Form ∷ Err Length ∷ Err PassTurn
+    ∷ Err HourOpen ∷ Err GasBook ∷ (Ok tt) ∷ Err PartsApart ∷ Err PartsTogether ∷ Err TradingDay
+    ∷ Err NothingBinds ∷ []
 
 -- each stands at its number
-at_refusal : (r : Refusal) → get_or outcomes (number_of r) Accepted ≡ Refused r
+at_refusal : (r : Refusal) → get_or outcomes (number_of r) (Ok tt) ≡ Err r
 unfolding outcomes
 at_refusal StepCount = refl
 at_refusal Edge = refl
@@ -50,29 +49,29 @@ at_refusal PartsTogether = refl
 at_refusal TradingDay = refl
 at_refusal NothingBinds = refl
 
-at_number : (o : Outcome) → get_or outcomes (outcome_number o) Accepted ≡ o
+at_number : (o : Result ⊤ Refusal) → get_or outcomes (outcome_number o) (Ok tt) ≡ o
 unfolding outcomes
-at_number Accepted = refl
-at_number (Refused r) = at_refusal r
+at_number (Ok tt) = refl
+at_number (Err r) = at_refusal r
 
 -- an outcome is what its number says
-pub outcome_only : (a b : Outcome) → outcome_number a ≡ outcome_number b → a ≡ b
-outcome_only a b e = sym (at_number a) ∙ ap (λ (n : ℕ). get_or outcomes n Accepted) e ∙ at_number b
+pub outcome_only : (a b : Result ⊤ Refusal) → outcome_number a ≡ outcome_number b → a ≡ b
+outcome_only a b e = sym (at_number a) ∙ ap (λ (n : ℕ). get_or outcomes n (Ok tt)) e ∙ at_number b
 
 -- ---- the numbers of refusals
-refuses : Outcome → ℕ
-refuses Accepted = 0
-refuses (Refused r) = 1
+refuses : Result ⊤ Refusal → ℕ
+refuses (Ok tt) = 0
+refuses (Err r) = 1
 
-no_refusal : (r : Refusal) → Accepted ≡ Refused r → ⊥
+no_refusal : (r : Refusal) → ◌≡◌ {A = Result ⊤ Refusal} (Ok tt) (Err r) → ⊥
 unfolding refuses
 no_refusal r e = let z : ◌≡◌ {A = ℕ} 0 1 = ap refuses e in omega arith
 
-listed : (n : ℕ) (r : Refusal) → get_or outcomes n Accepted ≡ Refused r → (0 < n) × (n ≤ 99)
+listed : (n : ℕ) (r : Refusal) → get_or outcomes n (Ok tt) ≡ Err r → (0 < n) × (n ≤ 99)
 unfolding outcomes
 listed zero r e = absurd (no_refusal r e)
 listed (suc n) r e =
-    (omega arith, ⊎_elim (λ l. let past : length outcomes ≤ suc n = omega arith in absurd (no_refusal r (sym (get_or-eq_default outcomes Accepted past) ∙ e))) (λ l. omega arith) (le_or_lt 99 n))
+    (omega arith, ⊎_elim (λ l. let past : length outcomes ≤ suc n = omega arith in absurd (no_refusal r (sym (get_or-eq_default outcomes (Ok tt) past) ∙ e))) (λ l. omega arith) (le_or_lt 99 n))
 
 pub refused_number : (r : Refusal) → 0 < number_of r
 refused_number r = (listed (number_of r) r (at_refusal r)).0

@@ -1,5 +1,5 @@
 -- Curves and the price of a quantity (paper 01, Curve; 39.6.1.1, 39.6.1.4).
-use Rattle.std.specs.Prelude.{Bool, true, false, ◌&&◌, cond, List, [], ◌∷◌, map, ℕ, zero, suc, leb, ltb, ℤ, pos, neg_ℤ, length, take}
+use Rattle.std.specs.Prelude.{Bool, true, false, ◌&&◌, cond, List, [], ◌∷◌, map, ℕ, zero, suc, leb, ltb, ℤ, pos, neg_ℤ, length, take, Option, Some, None}
 use Rattle.std.specs.Int.Signed.{lt_z, le_z}
 use Rattle.rules_number.specs.Order.{in_range, nat_of}
 use Rattle.rules_number.specs.Over.{padded}
@@ -9,11 +9,6 @@ use Rattle.rules_curve.specs.declared.RawStep.{RawStep}
 use Rattle.rules_curve.specs.declared.RawCurve.{RawCurve}
 use Rattle.rules_curve.specs.declared.Step.{Step}
 use Rattle.rules_curve.specs.declared.Curve.{Curve}
-use Rattle.rules_curve.specs.declared.Checked.{Checked}
-use Rattle.rules_curve.specs.declared.Quote.{Quote}
-use Rattle.rules_curve.specs.declared.Quote.TheVariants as answer
-use Rattle.rules_curve.specs.declared.Refusal.{Refusal}
-use Rattle.rules_curve.specs.declared.Outcome.TheVariants.{Refused}
 
 abbrev pub step_to : ℕ → ℤ → Step
 step_to e p = record { end = e; price = p }
@@ -47,14 +42,14 @@ price_at (s ∷ l) q =
     cond (ltb q s.end) s.price later
 
 -- the same as an answer: a quantity has a price only between the curve's start and its end
-unfoldable pub quote_from : List Step → ℕ → Quote
-quote_from [] q = answer.Outside
+unfoldable pub quote_from : List Step → ℕ → Option ℤ
+quote_from [] q = None
 quote_from (s ∷ l) q =
     let later = quote_from l q in
-    cond (ltb q s.end) (answer.Price s.price) later
+    cond (ltb q s.end) (Some s.price) later
 
-abbrev pub quote : ℕ → List Step → ℕ → Quote
-quote start l q = cond (ltb q start) answer.Outside (quote_from l q)
+abbrev pub quote : ℕ → List Step → ℕ → Option ℤ
+quote start l q = cond (ltb q start) None (quote_from l q)
 
 -- where a curve that starts at p ends
 abbrev pub end_of : ℕ → List Step → ℕ
@@ -144,10 +139,7 @@ abbrev pub pack_unless : ℕ → RawCurve → RawCurve
 pack_unless zero c = c
 pack_unless (suc n) c = no_pack
 
-abbrev pub refused_with : Refusal → Checked
-refused_with r = record { outcome = Refused r; curve = blank_curve }
-
--- the curve that a check hands back
+-- the curve that a check hands back, blank where it is refused
 abbrev pub checked_curve : ℕ → ℤ → ℤ → RawCurve → Curve
 checked_curve most low top c = unless_refused (curve_refusal most low top c) (curve_of c)
 

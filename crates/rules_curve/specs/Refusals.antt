@@ -1,9 +1,7 @@
 -- The refusals and their order (paper 01, Refused, by place; paper 02 from 19 on). In definitions a refusal is its number in the paper's table, and 0 stands for none.
-use Rattle.std.specs.Prelude.{Bool, cond, ℕ, zero, suc}
+use Rattle.std.specs.Prelude.{Bool, cond, ℕ, zero, suc, Result, Ok, Err}
 use Rattle.rules_curve.specs.declared.Refusal.{Refusal}
 use Rattle.rules_curve.specs.declared.Refusal.TheVariants.{StepCount, Edge, Price, PointCount, Quantity, HeatRate, CostRange, IncrementalRate, Counts, Membership, OutsideDefault, HourFull, ResourceCount, ConstraintCount, IntervalRange, Output, Form, Length, PassTurn, HourOpen, GasBook, PartsApart, PartsTogether, TradingDay, NothingBinds}
-use Rattle.rules_curve.specs.declared.Outcome.{Outcome}
-use Rattle.rules_curve.specs.declared.Outcome.TheVariants.{Accepted, Refused}
 
 -- the paper's number of each refusal
 abbrev pub number_of : Refusal → ℕ
@@ -34,9 +32,9 @@ number_of TradingDay = 25
 number_of NothingBinds = 26
 
 -- the number of an outcome: 0 where the call is accepted
-abbrev pub outcome_number : Outcome → ℕ
-outcome_number Accepted = 0
-outcome_number (Refused r) = number_of r
+abbrev pub outcome_number : {T : Type 0} → Result T Refusal → ℕ
+outcome_number (Ok x) = 0
+outcome_number (Err r) = number_of r
 
 -- number n unless the test holds
 abbrev pub unless : Bool → ℕ → ℕ

@@ -31,54 +31,34 @@ pub struct Curve {
     pub steps: [Step; Curve::MAX_STEPS],
 }
 
-// The price of a quantity, which a curve has only between its start and its end.
-#[derive(Clone, Copy)]
-pub enum Quote {
-    Price(i64),
-    Outside,
-}
-
-// Why a call is refused, one for each number of paper 01's table and of the requests of paper 02.
-#[derive(Clone, Copy)]
+// Why a call is refused, with its number in paper 01's table or in a request of paper 02. None of the engine's has 22.
+#[derive(Clone, Copy, Debug, PartialEq, Eq)]
 pub enum Refusal {
-    StepCount,
-    Edge,
-    Price,
-    PointCount,
-    Quantity,
-    HeatRate,
-    CostRange,
-    IncrementalRate,
-    Counts,
-    Membership,
-    OutsideDefault,
-    HourFull,
-    ResourceCount,
-    ConstraintCount,
-    IntervalRange,
-    Output,
-    Form,
-    Length,
-    PassTurn,
-    HourOpen,
-    GasBook,
-    PartsApart,
-    PartsTogether,
-    TradingDay,
-    NothingBinds,
-}
-
-#[derive(Clone, Copy)]
-pub enum Outcome {
-    Accepted,
-    Refused(Refusal),
-}
-
-// What a check answers: the curve, or a blank one and the refusal.
-#[derive(Clone, Copy)]
-pub struct Checked {
-    pub outcome: Outcome,
-    pub curve: Curve,
+    StepCount = 1,
+    Edge = 2,
+    Price = 3,
+    PointCount = 4,
+    Quantity = 5,
+    HeatRate = 6,
+    CostRange = 7,
+    IncrementalRate = 8,
+    Counts = 9,
+    Membership = 10,
+    OutsideDefault = 11,
+    HourFull = 12,
+    ResourceCount = 13,
+    ConstraintCount = 14,
+    IntervalRange = 15,
+    Output = 16,
+    Form = 17,
+    Length = 18,
+    PassTurn = 19,
+    HourOpen = 20,
+    GasBook = 21,
+    PartsApart = 23,
+    PartsTogether = 24,
+    TradingDay = 25,
+    NothingBinds = 26,
 }
 
 impl Curve {

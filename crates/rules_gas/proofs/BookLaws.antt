@@ -1,4 +1,5 @@
 -- Laws of lists of pairs, from an index on: what a loop over a list needs. Assumes nothing.
+use Rattle.std.specs.Prelude.{None, Some}
 use Prim.Native.Nat.{ℕ, suc, ◌+◌, ◌-◌, ◌%◌, ◌≤◌, ◌<◌}
 use mathlib.Core.Path.{◌≡◌, refl, sym, ap, ◌∙◌}
 use mathlib.Core.List.{List, [], ◌∷◌}
@@ -11,7 +12,6 @@ use lib.Dec.{leb, ltb, eqb}
 use lib.ListN.{length, drop, take, get_or, length-drop}
 use lib.Seq.{drop-cons}
 use Rattle.rules_gas.specs.Book.{rise_from, days_rise, length_of_run, is_book, run_in, run_refusal, gas_number, last_price}
-use Rattle.rules_gas.specs.declared.GasPrice.TheVariants.{Is, Missing}
 
 at_cons : (t : List ℕ) (i : ℕ) → i < length t → drop i t ≡ get_or t i 0 ∷ drop (i + 1) t
 at_cons t i h = rw add-one (drop-cons t i 0 h)
@@ -98,15 +98,15 @@ module _ (day : ℕ) (l : List ℕ) where
   run_is_front h k = run_by true (ap (λ (x : Bool). x && days_rise l) (eq-eqb (length l % 2) 0 h) ∙ k)
 
 -- ---- the last price
-pub last_none : (l : List ℕ) → length l ≡ 0 → Missing ≡ last_price l
+pub last_none : (l : List ℕ) → length l ≡ 0 → None ≡ last_price l
 unfolding last_price
 last_none [] h = refl
 last_none (x ∷ l) h = absurd (omega arith)
 
-pub last_is : (l : List ℕ) → (length l ≡ 0 → ⊥) → Is (get_or l (length l - 1) 0) ≡ last_price l
+pub last_is : (l : List ℕ) → (length l ≡ 0 → ⊥) → Some (get_or l (length l - 1) 0) ≡ last_price l
 unfolding last_price
 last_is [] h = absurd (h refl)
-last_is (x ∷ l) h = let n : length (x ∷ l) - 1 ≡ length l = omega arith in ap (λ (i : ℕ). Is (get_or (x ∷ l) i 0)) n
+last_is (x ∷ l) h = let n : length (x ∷ l) - 1 ≡ length l = omega arith in ap (λ (i : ℕ). Some (get_or (x ∷ l) i 0)) n
 
 -- and its number
 pub last_number : (l : List ℕ) → gas_number (last_price l) ≡ run_refusal l

@@ -1,4 +1,5 @@
 -- "21 .. found before any cost check" (paper 02, 2.7). Assumes nothing.
+use Rattle.std.specs.Prelude.{None, Option, Some}
 use mathlib.Core.Bool.{Bool, true, false}
 use mathlib.Core.List.{List, []}
 use mathlib.Core.Logic.{◌↔◌}
@@ -14,8 +15,6 @@ use Rattle.rules_gas.specs.Book.{run_in, gas_run, last_price, price_in_use}
 use Rattle.rules_gas.specs.Booked.{with_gas, priced_refusal, priced_curve, list_refusal, booked_refusal, booked_curve}
 use Rattle.rules_gas.specs.declared.GasMarket.{GasMarket}
 use Rattle.rules_gas.specs.declared.GasMarket.TheVariants.{DayAhead, RealTime}
-use Rattle.rules_gas.specs.declared.GasPrice.{GasPrice}
-use Rattle.rules_gas.specs.declared.GasPrice.TheVariants.{Is, Missing}
 use Rattle.rules_gas.proofs.PriceInUse.{last_none}
 
 -- ---- 21 is no number of costs
@@ -31,9 +30,9 @@ cost_not_21 : (c : Costs) → cost_refusal c ≡ 21 → ⊥
 unfolding cost_refusal
 cost_not_21 c h = not_21 (points_good c) (mw_good c) (heat_good c) (prices_in_range c) (rates_good c) h
 
-priced_exactly : (g : GasPrice) (c : Costs) → (priced_refusal g c ≡ 21) ↔ (g ≡ Missing)
-priced_exactly Missing c = ((λ h. refl), λ h. refl)
-priced_exactly (Is p) c = ((λ h. absurd (cost_not_21 (with_gas c p) h)), λ h. ap (λ (g : GasPrice). priced_refusal g c) h)
+priced_exactly : (g : Option ℕ) (c : Costs) → (priced_refusal g c ≡ 21) ↔ (g ≡ None)
+priced_exactly None c = ((λ h. refl), λ h. refl)
+priced_exactly (Some p) c = ((λ h. absurd (cost_not_21 (with_gas c p) h)), λ h. ap (λ (g : Option ℕ). priced_refusal g c) h)
 
 -- 21 exactly where the run is empty, whatever the costs
 pub list_21_exactly : (day : ℕ) (l : List ℕ) (c : Costs) → (list_refusal day l c ≡ 21) ↔ (run_in day l ≡ [])
@@ -51,13 +50,13 @@ module _ (market : GasMarket) (day : ℕ) (ahead real : List ℕ) (c : Costs) wh
 
   -- 21 hands back the blank curve
   pub no_curve_lem : gas_run market day ahead real ≡ [] → booked_curve market day ahead real c ≡ blank_curve
-  no_curve_lem h = ap (λ (g : GasPrice). priced_curve g c) ((last_none (gas_run market day ahead real)).1 h)
+  no_curve_lem h = ap (λ (g : Option ℕ). priced_curve g c) ((last_none (gas_run market day ahead real)).1 h)
 
   -- with a price in use, refusal and curve are those of the costs with that gas price
-  pub priced_as : (price : ℕ) → price_in_use market day ahead real ≡ Is price
+  pub priced_as : (price : ℕ) → price_in_use market day ahead real ≡ Some price
       → (booked_refusal market day ahead real c ≡ cost_refusal (with_gas c price))
       × (booked_curve market day ahead real c ≡ unless_refused (cost_refusal (with_gas c price)) (cost_curve (with_gas c price)))
-  priced_as price e = (ap (λ (g : GasPrice). priced_refusal g c) e, ap (λ (g : GasPrice). priced_curve g c) e)
+  priced_as price e = (ap (λ (g : Option ℕ). priced_refusal g c) e, ap (λ (g : Option ℕ). priced_curve g c) e)
 
 -- "The answer never depends on the other list"
 pub booked_unread : (day : ℕ) (l other other' : List ℕ) (c : Costs)

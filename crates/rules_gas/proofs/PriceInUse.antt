@@ -1,4 +1,5 @@
 -- The price in use is that of the entry with the greatest day up to the trading day (paper 02, 2.7; 39.7.1.1.1.3). Assumes nothing.
+use Rattle.std.specs.Prelude.{None, Option, Some}
 use mathlib.Core.Bool.{Bool, true, false, cond}
 use mathlib.Core.List.{List, [], ◌∷◌}
 use mathlib.Core.Logic.{◌↔◌, ⊎_elim}
@@ -6,14 +7,13 @@ use mathlib.Core.Path.{◌≡◌, refl, sym, ap, subst, ◌∙◌}
 use Prim.Native.Nat.{ℕ, zero, suc, ◌≤◌, ◌<◌}
 use native.Mathlib.Omega.{arith}
 use borrow.Author.Tests.{ltb-false}
+use Rattle.std.proofs.lemmas.Option.{none-some, same_Some}
 use lib.Dec.{ltb}
 use lib.ListN.{length, take}
 use Rattle.rules_number.proofs.OverLaws.{le_or_lt}
 use Rattle.rules_gas.specs.Book.{length_of_run, run_in, chosen, gas_run, book_refusal, gas_number, gas_value, last_price, price_in_use}
 use Rattle.rules_gas.specs.Meaning.{Entry, entries, entry_at, day_at, Rising, Book, Later, InUse}
 use Rattle.rules_gas.specs.declared.GasMarket.{GasMarket}
-use Rattle.rules_gas.specs.declared.GasPrice.{GasPrice}
-use Rattle.rules_gas.specs.declared.GasPrice.TheVariants.{Is, Missing}
 use Rattle.rules_gas.proofs.BookLaws.{last_number}
 use Rattle.rules_gas.proofs.EntryLaws.{entry, rising_rest}
 use Rattle.rules_gas.proofs.GasRun.{front, front_none, book_run}
@@ -51,7 +51,7 @@ in_use_only day es p q r a b =
 -- ---- the last price of a run that isn't empty is in use
 record Found (day : ℕ) (l : List ℕ) (run : List ℕ) : Type 0 where
   price : ℕ
-  last : last_price run ≡ Is price
+  last : last_price run ≡ Some price
   in_use : InUse day (entries l) price
 
 -- the first entry alone is up to the day
@@ -104,34 +104,28 @@ found day (d ∷ []) r h = absurd (h refl)
 found day (d ∷ p ∷ l) r h = found_by day d p l (ltb day d) refl r h (found day l (rising_rest (entry d p) (entries l) r))
 
 -- ---- both ways
-is_only : (p q : ℕ) → Is p ≡ Is q → p ≡ q
-is_only p q e = ap gas_value e
-
-no_price : (p : ℕ) → Missing ≡ Is p → ⊥
-no_price p e = let z : ◌≡◌ {A = ℕ} 21 0 = ap gas_number e in omega arith
-
-pub last_none : (run : List ℕ) → (last_price run ≡ Missing) ↔ (run ≡ [])
+pub last_none : (run : List ℕ) → (last_price run ≡ None) ↔ (run ≡ [])
 unfolding last_price
 last_none [] = ((λ e. refl), λ e. refl)
-last_none (x ∷ l) = ((λ e. absurd (no_price _ (sym e))), λ e. let n = ap length e in absurd (omega arith))
+last_none (x ∷ l) = ((λ e. absurd (none-some _ (sym e))), λ e. let n = ap length e in absurd (omega arith))
 
 module _ (day : ℕ) (l : List ℕ) (book : Book l) (price : ℕ) where
-  last_in_use : last_price (front day l) ≡ Is price → InUse day (entries l) price
+  last_in_use : last_price (front day l) ≡ Some price → InUse day (entries l) price
   last_in_use e =
-      let f = found day l book.rising (λ z. no_price price (sym ((last_none (front day l)).1 z) ∙ e)) in
-      subst (InUse day (entries l)) (is_only f.price price (sym f.last ∙ e)) f.in_use
+      let f = found day l book.rising (λ z. none-some price (sym ((last_none (front day l)).1 z) ∙ e)) in
+      subst (InUse day (entries l)) (same_Some f.price price (sym f.last ∙ e)) f.in_use
 
-  in_use_last : InUse day (entries l) price → last_price (front day l) ≡ Is price
+  in_use_last : InUse day (entries l) price → last_price (front day l) ≡ Some price
   in_use_last u =
       let f = found day l book.rising (λ z. let k = front_none day l book.rising z u.at u.among in let m = u.up_to in absurd (omega arith)) in
-      f.last ∙ ap (λ (p : ℕ). Is p) (in_use_only day (entries l) f.price price book.rising f.in_use u)
+      f.last ∙ ap (λ (p : ℕ). Some p) (in_use_only day (entries l) f.price price book.rising f.in_use u)
 
-  pub price_exactly : (last_price (run_in day l) ≡ Is price) ↔ InUse day (entries l) price
-  price_exactly = subst (λ (run : List ℕ). (last_price run ≡ Is price) ↔ InUse day (entries l) price) (book_run day l book) (last_in_use, in_use_last)
+  pub price_exactly : (last_price (run_in day l) ≡ Some price) ↔ InUse day (entries l) price
+  price_exactly = subst (λ (run : List ℕ). (last_price run ≡ Some price) ↔ InUse day (entries l) price) (book_run day l book) (last_in_use, in_use_last)
 
 -- "The last entry of the run is the price in use, so an unpublished day takes the latest before it"
 pub price_in_use_lem : (market : GasMarket) (day : ℕ) (ahead real : List ℕ) (price : ℕ) → Book (chosen market ahead real)
-    → (price_in_use market day ahead real ≡ Is price) ↔ InUse day (entries (chosen market ahead real)) price
+    → (price_in_use market day ahead real ≡ Some price) ↔ InUse day (entries (chosen market ahead real)) price
 price_in_use_lem market day ahead real price book = price_exactly day (chosen market ahead real) book price
 
 -- an entry's price is in use from its day on until the day before the next entry's
@@ -152,9 +146,9 @@ from_its_day day es i r l h next = record {
         (le_or_lt j i)
 
 -- ---- the numbers of an answer: 21 exactly where there is no price
-pub gas_number_lem : (g : GasPrice) → ((gas_number g ≡ 21) ↔ (g ≡ Missing)) × ((gas_number g ≡ 0) ↔ (g ≡ Is (gas_value g)))
-gas_number_lem (Is p) = (((λ h. absurd (omega arith)), λ h. absurd (no_price p (sym h))), ((λ h. refl), λ h. refl))
-gas_number_lem Missing = (((λ h. refl), λ h. refl), ((λ h. absurd (omega arith)), λ h. absurd (no_price 0 h)))
+pub gas_number_lem : (g : Option ℕ) → ((gas_number g ≡ 21) ↔ (g ≡ None)) × ((gas_number g ≡ 0) ↔ (g ≡ Some (gas_value g)))
+gas_number_lem (Some p) = (((λ h. absurd (omega arith)), λ h. absurd (none-some p (sym h))), ((λ h. refl), λ h. refl))
+gas_number_lem None = (((λ h. refl), λ h. refl), ((λ h. absurd (omega arith)), λ h. absurd (none-some 0 h)))
 
 -- "an empty part handed back means 21"
 pub book_number : (market : GasMarket) (day : ℕ) (ahead real : List ℕ)

@@ -1,4 +1,5 @@
 -- Books worked out, by computation.
+use Rattle.std.specs.Prelude.{None, Option, Some}
 use mathlib.Core.List.{List, [], ◌∷◌}
 use mathlib.Core.Path.{◌≡◌, refl}
 use Prim.Native.Nat.{ℕ}
@@ -12,8 +13,6 @@ use Rattle.rules_cost.proofs.Examples.{point, costs_t}
 use Rattle.rules_gas.specs.Book.{rise_from, days_rise, length_of_run, run_in, gas_run, last_price, price_in_use}
 use Rattle.rules_gas.specs.Booked.{with_gas, booked_refusal, booked_curve}
 use Rattle.rules_gas.specs.declared.GasMarket.TheVariants.{DayAhead, RealTime}
-use Rattle.rules_gas.specs.declared.GasPrice.{GasPrice}
-use Rattle.rules_gas.specs.declared.GasPrice.TheVariants.{Is, Missing}
 
 -- a book whose day-ahead list is good and whose real-time list has day 4 twice
 abbrev ahead : List ℕ
@@ -22,7 +21,7 @@ ahead = 3 ∷ 40000 ∷ 5 ∷ 41000 ∷ 9 ∷ 39000 ∷ []
 abbrev real : List ℕ
 real = 4 ∷ 50000 ∷ 4 ∷ 1 ∷ []
 
-abbrev used_price : ℕ → GasPrice
+abbrev used_price : ℕ → Option ℕ
 used_price day = price_in_use DayAhead day ahead real
 
 -- Case T's gas price, from day 1 on
@@ -61,9 +60,9 @@ pub record Books : Type 0 where
   pub run_on_5 : gas_run DayAhead 5 ahead real ≡ 3 ∷ 40000 ∷ 5 ∷ 41000 ∷ []
   pub run_on_2 : gas_run DayAhead 2 ahead real ≡ []
   -- the day itself counts, and an unpublished day takes the latest before it
-  pub published : (used_price 3 ≡ Is 40000) × (used_price 5 ≡ Is 41000) × (used_price 9 ≡ Is 39000)
-  pub unpublished : (used_price 4 ≡ Is 40000) × (used_price 8 ≡ Is 41000) × (used_price 4294967295 ≡ Is 39000)
-  pub too_early : (used_price 2 ≡ Missing) × (used_price 0 ≡ Missing)
+  pub published : (used_price 3 ≡ Some 40000) × (used_price 5 ≡ Some 41000) × (used_price 9 ≡ Some 39000)
+  pub unpublished : (used_price 4 ≡ Some 40000) × (used_price 8 ≡ Some 41000) × (used_price 4294967295 ≡ Some 39000)
+  pub too_early : (used_price 2 ≡ None) × (used_price 0 ≡ None)
   -- the real-time list is broken on every day, and the day-ahead list isn't touched by it
   pub equal_days : (gas_run RealTime 4 ahead real ≡ []) × (gas_run RealTime 3 ahead real ≡ []) × (gas_run RealTime 9 ahead real ≡ [])
   -- a list that ends inside a pair

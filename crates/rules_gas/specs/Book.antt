@@ -1,10 +1,8 @@
 -- The book of gas prices (paper 02, 2.7; 39.7.1.1.1.3): two lists, each with day and price of its entries in turn.
-use Rattle.std.specs.Prelude.{Bool, true, false, ◌&&◌, cond, List, [], ◌∷◌, ℕ, suc, ◌%◌, leb, ltb, eqb, length, take, get_or}
+use Rattle.std.specs.Prelude.{Bool, true, false, ◌&&◌, cond, List, [], ◌∷◌, ℕ, suc, ◌%◌, leb, ltb, eqb, length, take, get_or, None, Option, Some}
 use Rattle.rules_curve.specs.Refusals.{unless}
 use Rattle.rules_gas.specs.declared.GasMarket.{GasMarket}
 use Rattle.rules_gas.specs.declared.GasMarket.TheVariants.{DayAhead, RealTime}
-use Rattle.rules_gas.specs.declared.GasPrice.{GasPrice}
-use Rattle.rules_gas.specs.declared.GasPrice.TheVariants.{Is, Missing}
 
 -- "with days strictly rising": from day d on, and in a whole list
 unfoldable pub rise_from : ℕ → List ℕ → Bool
@@ -51,18 +49,18 @@ abbrev pub book_refusal : GasMarket → ℕ → List ℕ → List ℕ → ℕ
 book_refusal market day ahead real = run_refusal (gas_run market day ahead real)
 
 -- the paper's number of what a book answers, 0 where there is a price in use, and that price
-abbrev pub gas_number : GasPrice → ℕ
-gas_number (Is price) = 0
-gas_number Missing = 21
+abbrev pub gas_number : Option ℕ → ℕ
+gas_number (Some price) = 0
+gas_number None = 21
 
-abbrev pub gas_value : GasPrice → ℕ
-gas_value (Is price) = price
-gas_value Missing = 0
+abbrev pub gas_value : Option ℕ → ℕ
+gas_value (Some price) = price
+gas_value None = 0
 
 -- "The last entry of the run is the price in use": a run ends with that entry's price
-unfoldable pub last_price : List ℕ → GasPrice
-last_price [] = Missing
-last_price (x ∷ l) = Is (get_or (x ∷ l) (length l) 0)
+unfoldable pub last_price : List ℕ → Option ℕ
+last_price [] = None
+last_price (x ∷ l) = Some (get_or (x ∷ l) (length l) 0)
 
-abbrev pub price_in_use : GasMarket → ℕ → List ℕ → List ℕ → GasPrice
+abbrev pub price_in_use : GasMarket → ℕ → List ℕ → List ℕ → Option ℕ
 price_in_use market day ahead real = last_price (gas_run market day ahead real)

@@ -1,5 +1,5 @@
 -- Costs with a book's gas price (paper 02, 2.7): "21 .. found before any cost check".
-use Rattle.std.specs.Prelude.{List, ℕ, pos}
+use Rattle.std.specs.Prelude.{List, ℕ, pos, Option}
 use Rattle.rules_curve.specs.Curves.{unless_refused}
 use Rattle.rules_curve.specs.Refusals.{◌then◌}
 use Rattle.rules_curve.specs.declared.Curve.{Curve}
@@ -7,7 +7,6 @@ use Rattle.rules_cost.specs.Costs.{cost_refusal, cost_curve}
 use Rattle.rules_cost.specs.declared.Costs.{Costs}
 use Rattle.rules_gas.specs.Book.{gas_number, gas_value, run_in, last_price, price_in_use}
 use Rattle.rules_gas.specs.declared.GasMarket.{GasMarket}
-use Rattle.rules_gas.specs.declared.GasPrice.{GasPrice}
 
 -- the costs with this gas price; what they had in its place counts for nothing
 unfoldable pub with_gas : Costs → ℕ → Costs
@@ -24,10 +23,10 @@ with_gas c price = record {
 }
 
 -- 21 where there is no price in use, then 4 to 8
-abbrev pub priced_refusal : GasPrice → Costs → ℕ
+abbrev pub priced_refusal : Option ℕ → Costs → ℕ
 priced_refusal p c = gas_number p then cost_refusal (with_gas c (gas_value p))
 
-abbrev pub priced_curve : GasPrice → Costs → Curve
+abbrev pub priced_curve : Option ℕ → Costs → Curve
 priced_curve p c = unless_refused (priced_refusal p c) (cost_curve (with_gas c (gas_value p)))
 
 -- the default curve with the book's price, of the list that is chosen

@@ -7,10 +7,3 @@ pub enum GasMarket {
     DayAhead,
     RealTime,
 }
-
-// The gas price in use, or none where the book gives 21.
-#[derive(Clone, Copy)]
-pub enum GasPrice {
-    Is(u32),
-    Missing,
-}

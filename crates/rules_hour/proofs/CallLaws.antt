@@ -1,4 +1,5 @@
 -- A list of calls: which of them count, and what they leave of a price.
+use Rattle.std.specs.Prelude.{None, Option, Some}
 use mathlib.Core.List.{List, [], ◌∷◌}
 use mathlib.Core.Path.{◌≡◌, refl, sym, ap, ◌∙◌}
 use Prim.Native.Nat.{ℕ, suc, ◌+◌, ◌-◌, ◌≤◌, ◌<◌}
@@ -9,8 +10,6 @@ use lib.ListN.{length, take}
 use lib.Seq.{take-nil}
 use Rattle.rules_number.specs.Least.{least}
 use Rattle.rules_mitigation.specs.Mitigation.{capped, lowered}
-use Rattle.rules_mitigation.specs.declared.FloorPrice.{FloorPrice}
-use Rattle.rules_mitigation.specs.declared.FloorPrice.TheVariants.{Uncut, Cut}
 use Rattle.rules_mitigation.proofs.MitigationLaws.{capped_lowered}
 use Rattle.rules_interval.specs.Intervals.{interval_refusal}
 use Rattle.rules_interval.specs.declared.Interval.{Interval}
@@ -52,10 +51,10 @@ module _ (n a : ℕ) (v : Interval) (calls : List Interval) where
 
 -- ---- one cut of a price
 -- a further cut puts its cap among those that the price is the least of
-cut_price : (f k : FloorPrice) (b d : ℤ) (l : List ℤ) → least (capped (lowered f k) b d) l ≡ least (capped f b d) (with_cap k d l)
+cut_price : (f k : Option ℤ) (b d : ℤ) (l : List ℤ) → least (capped (lowered f k) b d) l ≡ least (capped f b d) (with_cap k d l)
 unfolding least
-cut_price f Uncut b d l = refl
-cut_price f (Cut x) b d l = ap (λ (z : ℤ). least z l) (capped_lowered f x b d)
+cut_price f None b d l = refl
+cut_price f (Some x) b d l = ap (λ (z : ℤ). least z l) (capped_lowered f x b d)
 
 -- ---- a list of calls, from any hour that the calls on an opening can leave
 -- g is h after the calls: a price b on a default price d, and the count

@@ -1,4 +1,5 @@
 -- The caps of a quantity are those that the user's words give: the component, the competitive price and the cut, each by its property.
+use Rattle.std.specs.Prelude.{Option, Some, None}
 use mathlib.Core.Bool.{Bool, true, false, ◌&&◌, cond}
 use mathlib.Core.List.Memᴰ
 use mathlib.Core.List.{List, [], ◌∷◌, Memᴰ}
@@ -16,10 +17,6 @@ use Rattle.rules_number.proofs.CeilSize.{ceil_ge, ceil_lt}
 use Rattle.rules_number.proofs.CeilLaws.{ceil_unique}
 use Rattle.rules_number.proofs.OverLaws.{tested, those_iff}
 use Rattle.rules_number.proofs.TestLaws.{above_exactly, not_above_exactly}
-use Rattle.rules_curve.specs.declared.Quote.{Quote}
-use Rattle.rules_curve.specs.declared.Quote.TheVariants as answer
-use Rattle.rules_mitigation.specs.declared.FloorPrice.{FloorPrice}
-use Rattle.rules_mitigation.specs.declared.FloorPrice.TheVariants.{Uncut, Cut}
 use Rattle.rules_interval.specs.Intervals.{shadow_at, lmp_at, dispatch_at, factor_at, interval_refusal}
 use Rattle.rules_interval.specs.declared.Interval.{Interval}
 use Rattle.rules_path.specs.Paths.{is_non_competitive}
@@ -88,16 +85,16 @@ module _ (o : Opening) (accepted : opening_refusal o ≡ 0) (v : Interval) (soun
 module _ (m : Market) (v : Interval) (r : ℕ) where
   -- a cut by its two tests
   by_tests : {s t : Bool} → lt_z (pos 0) (dispatch_at v r) ≡ s → lt_z (pos 0) (component m v r) ≡ t
-      → cut_of m v r ≡ cond (s && t) (Cut (competitive_price (lmp_at v r) (component m v r) +ℤ v.parameter)) Uncut
+      → cut_of m v r ≡ cond (s && t) (Some (competitive_price (lmp_at v r) (component m v r) +ℤ v.parameter)) None
   unfolding cut_of cut_from
-  by_tests = ap₂ (λ (s t : Bool). cond (s && t) (Cut (competitive_price (lmp_at v r) (component m v r) +ℤ v.parameter)) Uncut)
+  by_tests = ap₂ (λ (s t : Bool). cond (s && t) (Some (competitive_price (lmp_at v r) (component m v r) +ℤ v.parameter)) None)
 
   -- a resource that is dispatched with a component above 0 is cut at its floor price
-  cut_is : pos 0 <ℤ dispatch_at v r → pos 0 <ℤ component m v r → cut_of m v r ≡ Cut (competitive_price (lmp_at v r) (component m v r) +ℤ v.parameter)
+  cut_is : pos 0 <ℤ dispatch_at v r → pos 0 <ℤ component m v r → cut_of m v r ≡ Some (competitive_price (lmp_at v r) (component m v r) +ℤ v.parameter)
   cut_is e f = by_tests ((above_exactly (dispatch_at v r)).1 e) ((above_exactly (component m v r)).1 f)
 
   -- and no other is
-  no_cut : (dispatch_at v r ≤ℤ pos 0) ⊎ (component m v r ≤ℤ pos 0) → cut_of m v r ≡ Uncut
+  no_cut : (dispatch_at v r ≤ℤ pos 0) ⊎ (component m v r ≤ℤ pos 0) → cut_of m v r ≡ None
   no_cut (inl e) = by_tests ((not_above_exactly (dispatch_at v r)).1 e) refl
   no_cut (inr e) =
       ⊎_elim (λ d. by_tests d ((not_above_exactly (component m v r)).1 e)) (λ d. by_tests d refl) (tested (lt_z (pos 0) (dispatch_at v r)))
@@ -120,22 +117,22 @@ module _ (m : Market) (v : Interval) (r : ℕ) where
 -- the cut where C is a component by its property
 module _ (o : Opening) (accepted : opening_refusal o ≡ 0) (v : Interval) (sound : interval_refusal o.resources v ≡ 0) (r : ℕ) (C : ℤ) (h : Component o v r C) where
   -- dispatched, and C above 0
-  pub cut_exactly : pos 0 <ℤ dispatch_at v r → pos 0 <ℤ C → (p : ℤ) → Competitive (lmp_at v r) C p → cut_of (market_of o) v r ≡ Cut (p +ℤ v.parameter)
+  pub cut_exactly : pos 0 <ℤ dispatch_at v r → pos 0 <ℤ C → (p : ℤ) → Competitive (lmp_at v r) C p → cut_of (market_of o) v r ≡ Some (p +ℤ v.parameter)
   cut_exactly e f p k =
       let c = component_only o accepted v sound r C h in
       cut_is (market_of o) v r e (rw c at f)
-      ∙ ap (λ (x : ℤ). Cut (x +ℤ v.parameter)) (sym (price_only (lmp_at v r) C p k ∙ ap (competitive_price (lmp_at v r)) c))
+      ∙ ap (λ (x : ℤ). Some (x +ℤ v.parameter)) (sym (price_only (lmp_at v r) C p k ∙ ap (competitive_price (lmp_at v r)) c))
 
   -- not dispatched, or C not above 0
-  pub uncut_exactly : (dispatch_at v r ≤ℤ pos 0) ⊎ (C ≤ℤ pos 0) → cut_of (market_of o) v r ≡ Uncut
+  pub uncut_exactly : (dispatch_at v r ≤ℤ pos 0) ⊎ (C ≤ℤ pos 0) → cut_of (market_of o) v r ≡ None
   uncut_exactly e = no_cut (market_of o) v r (rw (component_only o accepted v sound r C h) at e)
 
 -- ---- the caps
 -- a quantity has one default price
-same_price : {x : Quote} {d e : ℤ} → x ≡ answer.Price d → x ≡ answer.Price e → d ≡ e
+same_price : {x : (Option ℤ)} {d e : ℤ} → x ≡ Some d → x ≡ Some e → d ≡ e
 same_price p q = cc
 
-module _ (o : Opening) (accepted : opening_refusal o ≡ 0) (r q : ℕ) (d : ℤ) (default : quote_in (default_of o r) q ≡ answer.Price d) where
+module _ (o : Opening) (accepted : opening_refusal o ≡ 0) (r q : ℕ) (d : ℤ) (default : quote_in (default_of o r) q ≡ Some d) where
   -- each of the calls is one that none of 13 to 16 refuses
   abbrev AllSound : List Interval → Type 0
   AllSound calls = (v : Interval) → Memᴰ v calls → interval_refusal o.resources v ≡ 0
@@ -195,18 +192,18 @@ module _ (o : Opening) (r q : ℕ) (y : ℤ) where
 
 -- each call that cuts has its cap, behind any others
 module _ (m : Market) (r : ℕ) (d l : ℤ) where
-  behind : (k : FloorPrice) (rest : List ℤ) → Memᴰ (max_z d l) rest → Memᴰ (max_z d l) (with_cap k d rest)
-  behind Uncut rest h = h
-  behind (Cut x) rest h = Memᴰ.tail h
+  behind : (k : Option ℤ) (rest : List ℤ) → Memᴰ (max_z d l) rest → Memᴰ (max_z d l) (with_cap k d rest)
+  behind None rest h = h
+  behind (Some x) rest h = Memᴰ.tail h
 
-  caps_each : (calls : List Interval) (v : Interval) → Memᴰ v calls → cut_of m v r ≡ Cut l → Memᴰ (max_z d l) (caps_in m r d calls)
+  caps_each : (calls : List Interval) (v : Interval) → Memᴰ v calls → cut_of m v r ≡ Some l → Memᴰ (max_z d l) (caps_in m r d calls)
   unfolding caps_in
   caps_each [] v h e = absurd (Memᴰ.not-nil h)
   caps_each (w ∷ calls) v h e =
       ⊎_elim (λ x. rw (← x, e) (Memᴰ.head refl)) (λ k. behind (cut_of m w r) (caps_in m r d calls) (caps_each calls v k e)) (Memᴰ.cases_cons h)
 
 -- ---- how many there are
-count_one : (t : Bool) (x d : ℤ) (l : List ℤ) → length (with_cap (cond t (Cut x) Uncut) d l) ≡ cond t 1 0 + length l
+count_one : (t : Bool) (x d : ℤ) (l : List ℤ) → length (with_cap (cond t (Some x) None) d l) ≡ cond t 1 0 + length l
 count_one true x d l = omega arith
 count_one false x d l = omega arith
 
@@ -228,7 +225,7 @@ module _ (o : Opening) (accepted : opening_refusal o ≡ 0) (calls : List Interv
     pub caps_number : length (caps_of o calls r q) ≡ how_many r (λ v. component (market_of o) v r) calls
     caps_number = count_caps (market_of o) r (default_price o r q) calls
 
-    module _ (default : quote_in (default_of o r) q ≡ answer.Price (default_price o r q)) where
+    module _ (default : quote_in (default_of o r) q ≡ Some (default_price o r q)) where
       -- One for each such call, and no other.
       pub caps_one_each : OneEach o r q calls (caps_of o calls r q)
       caps_one_each = one_for_each o accepted r q (default_price o r q) default calls sound

@@ -1,5 +1,6 @@
 -- The curve of a resource in an hour that calls on an accepted opening leave (paper 01, Interval and hour):
 -- "Neighbouring steps with one price are merged, in the opened hour too; 19 steps always suffice", 20 since a default curve may have 11.
+use Rattle.std.specs.Prelude.{None, Option, ℤ}
 use mathlib.Core.List.{List, []}
 use mathlib.Core.Path.{◌≡◌, ap, ◌∙◌, subst}
 use Prim.Native.Nat.{ℕ, ◌≤◌, ◌<◌}
@@ -7,8 +8,6 @@ use Rattle.rules_curve.specs.declared.Step.{Step}
 use Rattle.rules_mitigation.specs.Mitigation.{most_mitigated_steps, mitigated, used_steps}
 use Rattle.rules_mitigation.specs.Meaning.{IsMitigated}
 use Rattle.rules_mitigation.specs.declared.Mitigated.{Mitigated}
-use Rattle.rules_mitigation.specs.declared.FloorPrice.{FloorPrice}
-use Rattle.rules_mitigation.specs.declared.FloorPrice.TheVariants.{Uncut}
 use Rattle.rules_mitigation.proofs.MitigatedCurve.{mitigated_is, mitigated_only, twenty_suffice}
 use Rattle.rules_interval.specs.declared.Interval.{Interval}
 use Rattle.rules_hour.specs.Hours.{floor_in, curve_in, hour_after_all}
@@ -23,14 +22,14 @@ use Rattle.rules_hour.proofs.KeptLaws.{Kept, hour_kept, kept_curve}
 
 -- What the curve c of resource r is where its floor price is k: the bid with each quantity at the smaller of its price and its cap, its prices never falling and
 -- no two neighbours with one price; it is the only such curve, and 20 steps suffice.
-pub record Shape (o : Opening) (r : ℕ) (k : FloorPrice) (c : Mitigated) : Type 0 where
+pub record Shape (o : Opening) (r : ℕ) (k : Option ℤ) (c : Mitigated) : Type 0 where
   pub is : IsMitigated k (submitted o r) (default_of o r) c.start (used_steps c)
   pub only : (p : ℕ) (l : List Step) → IsMitigated k (submitted o r) (default_of o r) p l → l ≡ used_steps c
   pub twenty : c.count ≤ most_mitigated_steps
 
 module _ (o : Opening) (r : ℕ) (accepted : opening_refusal o ≡ 0) (l : r < o.resources) where
   -- the curve of the bid with a floor price
-  pub shape_by : (k : FloorPrice) (c : Mitigated) → c ≡ mitigated k (submitted o r) (default_of o r) → Shape o r k c
+  pub shape_by : (k : Option ℤ) (c : Mitigated) → c ≡ mitigated k (submitted o r) (default_of o r) → Shape o r k c
   shape_by k c e =
       let b = bid_sound o accepted r l in
       let d = default_sound o accepted r l in
@@ -51,8 +50,8 @@ module _ (o : Opening) (r : ℕ) (accepted : opening_refusal o ≡ 0) (l : r < o
   shape calls = kept_shape (hour_of o calls) (hour_kept o calls accepted)
 
   -- the curve in the opened hour: no floor price, and merged too
-  pub opened_shape : Shape o r Uncut (curve_in (opened_hour o) r)
+  pub opened_shape : Shape o r None (curve_in (opened_hour o) r)
   unfolding hour_after_all
   opened_shape =
       let uncut = ap (λ (h : Hour). (floor_in h r).price) (opened_hour_lem o accepted) ∙ ap (λ (x : Floor). x.price) (fresh_floor o r l) in
-      subst (λ (k : FloorPrice). Shape o r k (curve_in (opened_hour o) r)) uncut (shape [])
+      subst (λ (k : Option ℤ). Shape o r k (curve_in (opened_hour o) r)) uncut (shape [])

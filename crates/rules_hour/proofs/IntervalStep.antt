@@ -1,5 +1,6 @@
 -- One more interval (paper 01, Interval and hour): "If dispatch > 0 and C > 0, each quantity's price becomes the smaller of its present price and its cap,
 -- the higher of default price and L. Otherwise it stays." "a refused call leaves it as it was". Assumes nothing.
+use Rattle.std.specs.Prelude.{Option}
 use mathlib.Core.List.{List, [], ◌∷◌, ◌++◌}
 use mathlib.Core.Logic.{◌⊎◌}
 use mathlib.Core.Path.{◌≡◌, sym, ap, ◌∙◌}
@@ -9,7 +10,6 @@ use lib.Signed.{◌<ℤ◌, ◌≤ℤ◌}
 use Rattle.rules_number.specs.Order.{min_z, max_z}
 use Rattle.rules_curve.specs.Curves.{price_at}
 use Rattle.rules_mitigation.specs.Mitigation.{capped, lowered, used_steps}
-use Rattle.rules_mitigation.specs.declared.FloorPrice.{FloorPrice}
 use Rattle.rules_mitigation.proofs.MitigationLaws.{capped_again}
 use Rattle.rules_interval.specs.Intervals.{lmp_at, dispatch_at, interval_refusal}
 use Rattle.rules_interval.specs.declared.Interval.{Interval}
@@ -61,7 +61,7 @@ module _ (o : Opening) (calls : List Interval) (v : Interval) (r : ℕ) (accepte
       let after = (shape o r accepted l (followed calls v)).is.price q i.from_start i.below_end in
       let before = (shape o r accepted l calls).is.price q i.from_start i.below_end in
       after
-      ∙ ap (λ (k : FloorPrice). capped k (submitted_price o r q) (default_price o r q)) (floor_after e)
+      ∙ ap (λ (k : Option ℤ). capped k (submitted_price o r q) (default_price o r q)) (floor_after e)
       ∙ capped_again (floor_in (hour_of o calls) r).price (cut_of (market_of o) v r) (submitted_price o r q) (default_price o r q)
       ∙ ap (λ (x : ℤ). capped (cut_of (market_of o) v r) x (default_price o r q)) (sym before)
 
@@ -73,7 +73,7 @@ module _ (o : Opening) (calls : List Interval) (v : Interval) (r : ℕ) (accepte
   interval_by_interval = record {
     cuts = cut_by;
     smaller = λ e d C h a p k q i.
-        cut_by e q i ∙ ap (λ (x : FloorPrice). capped x (price_after o calls r q) (default_price o r q)) (cut_exactly o accepted v (sound e) r C h d a p k);
-    stays = λ e C h a q i. cut_by e q i ∙ ap (λ (x : FloorPrice). capped x (price_after o calls r q) (default_price o r q)) (uncut_exactly o accepted v (sound e) r C h a);
+        cut_by e q i ∙ ap (λ (x : Option ℤ). capped x (price_after o calls r q) (default_price o r q)) (cut_exactly o accepted v (sound e) r C h d a p k);
+    stays = λ e C h a q i. cut_by e q i ∙ ap (λ (x : Option ℤ). capped x (price_after o calls r q) (default_price o r q)) (uncut_exactly o accepted v (sound e) r C h a);
     refused = λ n e. one_more (opened_hour o) calls v ∙ refused_call (hour_of o calls) v n e;
   }

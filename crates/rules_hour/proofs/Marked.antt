@@ -1,4 +1,5 @@
 -- Marked for proof (paper 01): P1 to P10, a single table with one theorem. Assumes nothing.
+use Rattle.std.specs.Prelude.{None, Some}
 use mathlib.Core.Bool.{true, false}
 use mathlib.Core.List.{List, [], ◌∷◌}
 use mathlib.Core.Path.{◌≡◌, refl, ap, ◌∙◌}
@@ -12,7 +13,6 @@ use Rattle.rules_number.proofs.CeilLaws.{ceil_shift}
 use Rattle.rules_curve.specs.Refusals.{each_to}
 use Rattle.rules_curve.specs.Curves.{step_to, steps_of, price_at, chain, curve_refusal, curve_of, bid_refusal}
 use Rattle.rules_mitigation.specs.Mitigation.{capped, lowered, segments_n, joined, joined_after, mitigated, used_steps}
-use Rattle.rules_mitigation.specs.declared.FloorPrice.TheVariants.{Uncut, Cut}
 use Rattle.rules_cost.specs.Costs.{mark, first_to, split_at, count_of_steps, segment_at, end_at, edge_at, width_at, width, unlimited, is_limited, incremental_rate, fuel, greenhouse, fee_part, step_cost, with_adder, rate_at, largest_rate, step_price, raised_price, cost_curve, mw_suits, mw_good, heat_good, charges_in_range, prices_in_range, rates_good, cost_refusal}
 use Rattle.rules_interval.specs.Intervals.{all_within, factors_good, outputs_good, interval_refusal}
 use Rattle.rules_interval.specs.declared.Interval.{Interval}
@@ -69,14 +69,14 @@ pub record Marked : Type 0 where
   pub p6_competitive : (verdict_of (path4 (5 ∷ []) 0)).finding ≡ Competitive
   pub p6_not : (verdict_of (path4 (5 ∷ 1 ∷ []) 0)).finding ≡ NonCompetitive
   -- P7 C = 1: L = lmp + parameter; C = 0: no cut
-  pub p7_cut : (lmp parameter : ℤ) → cut_from (pos 1) lmp (pos 1) parameter ≡ Cut (lmp +ℤ parameter)
-  pub p7_none : (lmp parameter : ℤ) → cut_from (pos 1) lmp (pos 0) parameter ≡ Uncut
+  pub p7_cut : (lmp parameter : ℤ) → cut_from (pos 1) lmp (pos 1) parameter ≡ Some (lmp +ℤ parameter)
+  pub p7_none : (lmp parameter : ℤ) → cut_from (pos 1) lmp (pos 0) parameter ≡ None
   -- P8 bid 300000, default 378402, L 350100: stays 300000
-  pub p8 : capped (Cut (pos 350100)) (pos 300000) (pos 378402) ≡ pos 300000
+  pub p8 : capped (Some (pos 350100)) (pos 300000) (pos 378402) ≡ pos 300000
   pub p8_hour : price_t (interval_t ∷ []) 10000 ≡ pos 300000
   -- P9 bid 900000, default 378402, L 500000 then 350100: 500000, then 378402
-  pub p9_first : capped (lowered Uncut (Cut (pos 500000))) (pos 900000) (pos 378402) ≡ pos 500000
-  pub p9_then : capped (lowered (lowered Uncut (Cut (pos 500000))) (Cut (pos 350100))) (pos 900000) (pos 378402) ≡ pos 378402
+  pub p9_first : capped (lowered None (Some (pos 500000))) (pos 900000) (pos 378402) ≡ pos 500000
+  pub p9_then : capped (lowered (lowered None (Some (pos 500000))) (Some (pos 350100))) (pos 900000) (pos 378402) ≡ pos 378402
   pub p9_hour_first : price_t (interval_at 749900 ∷ []) 15000 ≡ pos 500000
   pub p9_hour_then : price_t (interval_at 749900 ∷ interval_t ∷ []) 15000 ≡ pos 378402
   -- P10 price 5000001: refused in month 12, taken in 13
@@ -115,7 +115,7 @@ marked = record {
   p6_left = refl;
   p6_competitive = refl;
   p6_not = refl;
-  p7_cut = λ lmp parameter. ap (λ (x : ℤ). Cut (x +ℤ parameter)) (ceil_shift lmp (negsuc 0) 1000000 (lit< tt) ∙ +ℤ_idr lmp);
+  p7_cut = λ lmp parameter. ap (λ (x : ℤ). Some (x +ℤ parameter)) (ceil_shift lmp (negsuc 0) 1000000 (lit< tt) ∙ +ℤ_idr lmp);
   p7_none = λ lmp parameter. refl;
   p8 = refl;
   p8_hour = refl;

@@ -1,4 +1,5 @@
 -- The owner's sentence of any curve whose floor price gives each quantity the least of a price before and its caps. Assumes nothing.
+use Rattle.std.specs.Prelude.{Option}
 use mathlib.Core.List.{List, Memᴰ}
 use mathlib.Core.Logic.{⊎_elim}
 use mathlib.Core.Path.{◌≡◌, sym, ap, subst, ◌∙◌}
@@ -13,7 +14,6 @@ use Rattle.rules_curve.specs.declared.Step.{Step}
 use Rattle.rules_curve.proofs.QuoteLaws.{quote_inside, quote_before, quote_past}
 use Rattle.rules_mitigation.specs.Mitigation.{capped, used_steps}
 use Rattle.rules_mitigation.specs.declared.Mitigated.{Mitigated}
-use Rattle.rules_mitigation.specs.declared.FloorPrice.{FloorPrice}
 use Rattle.rules_mitigation.proofs.MitigationLaws.{only_curve}
 use Rattle.rules_interval.specs.Intervals.{interval_refusal}
 use Rattle.rules_interval.specs.declared.Interval.{Interval}
@@ -58,7 +58,7 @@ module _ (o : Opening) (accepted : opening_refusal o ≡ 0) (r : ℕ) (l : r < o
       }
 
   -- none of 13 to 16 applies to any of these calls; c is the bid with the floor price k
-  module _ (calls : List Interval) (sound : (v : Interval) → Memᴰ v calls → interval_refusal o.resources v ≡ 0) (c : Mitigated) (k : FloorPrice) (s : Shape o r k c) where
+  module _ (calls : List Interval) (sound : (v : Interval) → Memᴰ v calls → interval_refusal o.resources v ≡ 0) (c : Mitigated) (k : Option ℤ) (s : Shape o r k c) where
     pub capped_curve : (before : ℕ → ℤ) → ((q : ℕ) → InBid o r q → capped k (submitted_price o r q) (default_price o r q) ≡ least (before q) (caps_of o calls r q))
         → Capped o r before calls c
     capped_curve before lowest =

@@ -1,4 +1,5 @@
 -- Demand 3's own words worked through, by computation: counterflow, what a portfolio can withhold, the numbers that calls return, and caps.
+use Rattle.std.specs.Prelude.{None, Some}
 use mathlib.Core.List.{List, [], ◌∷◌, ◌++◌}
 use mathlib.Core.Path.{◌≡◌, refl}
 use Prim.Native.Nat.{ℕ}
@@ -7,7 +8,6 @@ use Rattle.rules_number.specs.Order.{in_range}
 use Rattle.rules_number.specs.Over.{sum_to, all_to, listed, those, sum_over, padded, up_to}
 use Rattle.rules_curve.specs.Refusals.{each_to}
 use Rattle.rules_curve.specs.Curves.{price_at, quote_from, chain, curve_refusal, curve_of}
-use Rattle.rules_curve.specs.declared.Quote.TheVariants as answer
 use Rattle.rules_interval.specs.Intervals.{all_within, factors_good, outputs_good, interval_refusal}
 use Rattle.rules_interval.specs.declared.Interval.{Interval}
 use Rattle.rules_path.specs.Paths.{demand, supply, share, withholdable, offer, offers, largest, top, total, sellers, left, is_non_competitive}
@@ -64,8 +64,8 @@ pub record Sums : Type 0 where
   pub capped : caps two six 0 0 ≡ pos 800 ∷ pos 700 ∷ pos 700 ∷ pos 300 ∷ []
   pub uncapped : caps two six 1 0 ≡ []
   -- the default curve of resource 0 ends at 100: its last hundredth has a price, and past it there is none
-  pub last : quote_in (default_of two 0) 99 ≡ answer.Price (pos 300)
-  pub past : quote_in (default_of two 0) 100 ≡ answer.Outside
+  pub last : quote_in (default_of two 0) 99 ≡ Some (pos 300)
+  pub past : quote_in (default_of two 0) 100 ≡ None
 
 pub sums : Sums
 unfolding in_range sum_to all_to listed those sum_over padded up_to each_to price_at quote_from chain curve_refusal curve_of

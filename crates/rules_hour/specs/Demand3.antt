@@ -2,7 +2,7 @@
 -- "After every list of interval calls on a freshly opened hour, accepted and refused ones in any order, the price of each hundredth of a megawatt in a
 -- resource's bid is the least of its submitted price and its caps."
 -- Everything here but `answers`, `hour_of` and `curve_after` is made from the opening data and the calls alone.
-use Rattle.std.specs.Prelude.{◌&&◌, cond, ◌↔◌, ◌⊎◌, ◌≡◌, ℕ, zero, suc, ◌+◌, ◌≤◌, ◌<◌, ℤ, pos, neg_ℤ, ◌+ℤ◌, ◌-ℤ◌, ◌*ℤ◌, length, take, ◌<ℤ◌, ◌≤ℤ◌}
+use Rattle.std.specs.Prelude.{◌&&◌, cond, ◌↔◌, ◌⊎◌, ◌≡◌, ℕ, zero, suc, ◌+◌, ◌≤◌, ◌<◌, ℤ, pos, neg_ℤ, ◌+ℤ◌, ◌-ℤ◌, ◌*ℤ◌, length, take, ◌<ℤ◌, ◌≤ℤ◌, None, Option, Some}
 use mathlib.Core.List.{List, [], ◌∷◌, Memᴰ}
 use Rattle.std.specs.Int.Signed.{lt_z}
 use Rattle.rules_number.specs.Order.{max_z, eq_z, nat_of}
@@ -13,13 +13,9 @@ use Rattle.rules_curve.specs.Demands.{First, Met}
 use Rattle.rules_curve.specs.Meaning.{Rising}
 use Rattle.rules_curve.specs.declared.Step.{Step}
 use Rattle.rules_curve.specs.declared.Curve.{Curve}
-use Rattle.rules_curve.specs.declared.Quote.{Quote}
-use Rattle.rules_curve.specs.declared.Quote.TheVariants as answer
 use Rattle.rules_mitigation.specs.Mitigation.{most_mitigated_steps, used_steps}
 use Rattle.rules_mitigation.specs.Meaning.{Apart}
 use Rattle.rules_mitigation.specs.declared.Mitigated.{Mitigated}
-use Rattle.rules_mitigation.specs.declared.FloorPrice.{FloorPrice}
-use Rattle.rules_mitigation.specs.declared.FloorPrice.TheVariants.{Uncut, Cut}
 use Rattle.rules_interval.specs.Intervals.{shadow_at, lmp_at, dispatch_at, available_at, floor_at, factor_at, interval_refusal}
 use Rattle.rules_interval.specs.declared.Interval.{Interval}
 use Rattle.rules_path.specs.Paths.{Path, Withheld}
@@ -57,7 +53,7 @@ pub record InDefault (o : Opening) (r q : ℕ) : Type 0 where
   pub below_end : q < end_of (default_of o r).start (steps_of (default_of o r))
 
 -- "Quantity q has the price of the step with lower edge <= q < end": the price that a curve has of it, or none
-abbrev pub quote_in : Curve → ℕ → Quote
+abbrev pub quote_in : Curve → ℕ → Option ℤ
 quote_in c q = quote c.start (steps_of c) q
 
 -- ---- which calls are accepted
@@ -76,9 +72,9 @@ accepted_calls o calls = take 4 (sound_calls o.resources calls)
 
 -- ---- the caps of a resource on a default price d
 -- a cut's cap: the higher of default price and L
-abbrev pub with_cap : FloorPrice → ℤ → List ℤ → List ℤ
-with_cap Uncut d l = l
-with_cap (Cut floor) d l = max_z d floor ∷ l
+abbrev pub with_cap : Option ℤ → ℤ → List ℤ → List ℤ
+with_cap None d l = l
+with_cap (Some floor) d l = max_z d floor ∷ l
 
 -- one for each of these calls in which the resource is dispatched and C is above 0, and no other
 unfoldable pub caps_in : Market → ℕ → ℤ → List Interval → List ℤ
@@ -166,7 +162,7 @@ pub record CapIn (o : Opening) (v : Interval) (r q : ℕ) (y : ℤ) : Type 0 whe
   pub price : ℤ
   pub competitive : Competitive (lmp_at v r) C price
   pub default : ℤ
-  pub default_price_lem : quote_in (default_of o r) q ≡ answer.Price default
+  pub default_price_lem : quote_in (default_of o r) q ≡ Some default
   pub cap : y ≡ max_z default (price +ℤ v.parameter)
 
 -- interval v has no cap for resource r: it isn't dispatched, or its component isn't above 0
@@ -254,12 +250,12 @@ pub record Capped (o : Opening) (r : ℕ) (before : ℕ → ℤ) (accepted : Lis
   pub component : (v : Interval) → Memᴰ v accepted → Component o v r (C v)
   pub number : (q : ℕ) → length (caps_of o accepted r q) ≡ how_many r C accepted
   -- the price is the one that the curve has of the quantity
-  pub quoted : (q : ℕ) → InBid o r q → quote c.start (used_steps c) q ≡ answer.Price (price_at (used_steps c) q)
+  pub quoted : (q : ℕ) → InBid o r q → quote c.start (used_steps c) q ≡ Some (price_at (used_steps c) q)
 
 -- the prices of quantity q are those that the submitted bid and the default curve have of it
 pub record Quoted (o : Opening) (r q : ℕ) : Type 0 where
-  pub before : quote_in (submitted o r) q ≡ answer.Price (submitted_price o r q)
-  pub default : quote_in (default_of o r) q ≡ answer.Price (default_price o r q)
+  pub before : quote_in (submitted o r) q ≡ Some (submitted_price o r q)
+  pub default : quote_in (default_of o r) q ≡ Some (default_price o r q)
 
 -- the owner's sentence, of the curve c of resource r where these intervals were accepted
 pub record Owned (o : Opening) (r : ℕ) (accepted : List Interval) (c : Mitigated) : Type 0 where
@@ -269,7 +265,7 @@ pub record Owned (o : Opening) (r : ℕ) (accepted : List Interval) (c : Mitigat
   pub quoted : (q : ℕ) → InBid o r q → Quoted o r q
   -- 11: the bid reaches nowhere outside its default curve, at its start or at its end; a quantity outside has no default price
   pub default_covers : (q : ℕ) → InBid o r q → InDefault o r q
-  pub no_default : (q : ℕ) → (q < (default_of o r).start) ⊎ (end_of (default_of o r).start (steps_of (default_of o r)) ≤ q) → quote_in (default_of o r) q ≡ answer.Outside
+  pub no_default : (q : ℕ) → (q < (default_of o r).start) ⊎ (end_of (default_of o r).start (steps_of (default_of o r)) ≤ q) → quote_in (default_of o r) q ≡ None
 
 pub record Demand3 (o : Opening) (calls : List Interval) (r : ℕ) : Type 0 where
   pub owned : Owned o r (accepted_calls o calls) (curve_after o calls r)

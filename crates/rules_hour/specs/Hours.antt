@@ -1,12 +1,10 @@
 -- The hour and its intervals (paper 01, Interval and hour; 31.2.3, 34.1.5; Refused, by place: 12 to 16).
-use Rattle.std.specs.Prelude.{List, [], ◌∷◌, ℕ, zero, suc, ◌+◌, ltb, get_or, replicate}
+use Rattle.std.specs.Prelude.{List, [], ◌∷◌, ℕ, zero, suc, ◌+◌, ltb, get_or, replicate, None, Option, ℤ}
 use Rattle.rules_number.specs.Over.{up_to}
 use Rattle.rules_curve.specs.Refusals.{unless, ◌then◌}
 use Rattle.rules_curve.specs.declared.Curve.{Curve}
 use Rattle.rules_mitigation.specs.Mitigation.{lowered, mitigated}
 use Rattle.rules_mitigation.specs.declared.Mitigated.{Mitigated}
-use Rattle.rules_mitigation.specs.declared.FloorPrice.{FloorPrice}
-use Rattle.rules_mitigation.specs.declared.FloorPrice.TheVariants.{Uncut}
 use Rattle.rules_interval.specs.Intervals.{interval_refusal}
 use Rattle.rules_interval.specs.declared.Interval.{Interval}
 use Rattle.rules_path.specs.Judgements.{verdicts_of, verdicts_unless}
@@ -22,7 +20,7 @@ use Rattle.rules_hour.specs.declared.Standing.{Standing}
 -- ---- the standing: what intervals change of an hour
 -- no floor price yet; a read past the end of an array gives it too
 abbrev pub uncut : Floor
-uncut = record { price = Uncut }
+uncut = record { price = None }
 
 unfoldable pub fresh_standing : Standing
 fresh_standing = record { accepted = 0; floors = replicate 64 uncut }
@@ -59,7 +57,7 @@ curve_in h r = row_curve (row_at h r) (floor_in h r)
 
 -- ---- an interval, of an hour with this market and this standing
 -- a floor price after a cut
-abbrev pub cut_floor : FloorPrice → Floor → Floor
+abbrev pub cut_floor : Option ℤ → Floor → Floor
 cut_floor k x = record { price = lowered x.price k }
 
 -- the floor price of each resource after its cut in an interval

@@ -2,12 +2,11 @@
 #![tactic(auto)]
 
 use rules_interval::Interval;
-use rules_mitigation::FloorPrice;
 
 // The lowest floor price of the accepted intervals that cut a resource.
 #[derive(Clone, Copy)]
 pub struct Floor {
-    pub price: FloorPrice,
+    pub price: Option<i64>,
 }
 
 // What intervals change of an hour: how many it has accepted, and the floor price of each resource.

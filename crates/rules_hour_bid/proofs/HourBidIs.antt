@@ -1,4 +1,5 @@
 -- The bid for the hour is the lowest of the four intervals' curves and, while cuts carry on, the fourth (paper 02, 2.2). Assumes nothing.
+use Rattle.std.specs.Prelude.{None, Option, Some}
 use mathlib.Core.List.Memᴰ
 use mathlib.Core.List.{List, [], ◌∷◌, ◌++◌, append_assoc, append-nil, Memᴰ}
 use mathlib.Core.Logic.{◌↔◌, inr, ⊎_elim}
@@ -20,8 +21,6 @@ use Rattle.rules_curve.specs.Curves.{price_at}
 use Rattle.rules_curve.specs.declared.Step.{Step}
 use Rattle.rules_curve.proofs.CheckLaws.{unless_holds}
 use Rattle.rules_mitigation.specs.Mitigation.{capped, most_mitigated_steps, blank_mitigated, used_steps}
-use Rattle.rules_mitigation.specs.declared.FloorPrice.{FloorPrice}
-use Rattle.rules_mitigation.specs.declared.FloorPrice.TheVariants.{Uncut, Cut}
 use Rattle.rules_interval.specs.declared.Interval.{Interval}
 use Rattle.rules_opening.specs.Openings.{market_of, opening_refusal}
 use Rattle.rules_opening.specs.declared.Opening.{Opening}
@@ -61,9 +60,9 @@ accepted_counts : (o : Opening) (calls : List Request) (v : Interval) → hour_r
     → (hour_of o (calls ++ (interval v ∷ []))).hour.standing.accepted ≡ (hour_of o calls).hour.standing.accepted + 1
 accepted_counts o calls v e = ap (λ (h : RealTimeHour). h.hour.standing.accepted) (one_more (opened_real_time o) calls (interval v)) ∙ counts (hour_of o calls) v e
 
-capped_below : (k : FloorPrice) (b d : ℤ) → capped k b d ≤ℤ b
-capped_below Uncut b d = ≤ℤ_refl b
-capped_below (Cut l) b d = min_le_left b (max_z d l)
+capped_below : (k : Option ℤ) (b d : ℤ) → capped k b d ≤ℤ b
+capped_below None b d = ≤ℤ_refl b
+capped_below (Some l) b d = min_le_left b (max_z d l)
 
 module _ (o : Opening) (accepted : opening_refusal o ≡ 0) (r : ℕ) (l : r < o.resources) (q : ℕ) (i : InBid o r q) where
   -- the price after a list is that after its interval calls

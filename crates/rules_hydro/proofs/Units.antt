@@ -1,4 +1,5 @@
 -- "A cut on a hydro unit has the same causes as on any other" (paper 02, 2.8), over every list of interval calls and passes. Assumes nothing.
+use Rattle.std.specs.Prelude.{Some}
 use mathlib.Core.Bool.{cond}
 use mathlib.Core.List.{List, [], ◌∷◌}
 use mathlib.Core.Logic.{◌↔◌}
@@ -10,7 +11,6 @@ use lib.IntN.{ℤ, pos, ◌+ℤ◌, ◌-ℤ◌, ◌*ℤ◌}
 use Rattle.rules_number.specs.Order.{eq_z, nat_of}
 use Rattle.rules_curve.specs.Curves.{step_to, steps_of, end_of, price_at, curve_of}
 use Rattle.rules_curve.specs.declared.Step.{Step}
-use Rattle.rules_curve.specs.declared.Quote.TheVariants as answer
 use Rattle.rules_curve.proofs.PriceLaws.{price_here}
 use Rattle.rules_interval.specs.Intervals.{available_at, floor_at}
 use Rattle.rules_interval.specs.declared.Interval.{Interval}
@@ -83,9 +83,9 @@ module _ (o : Opening) (calls : List Request) (r : ℕ) (x : Hydro) (accepted : 
   pub hydro_unit : HydroUnit o calls r x
   hydro_unit = record { taken = packed.0; hourly = demand_3 o calls r accepted l; five_minute = five_minute o calls r accepted l; default = default }
     where
-      default : (q : ℕ) → InBid o r q → quote_in (default_of o r) q ≡ answer.Price (hydro_price x)
+      default : (q : ℕ) → InBid o r q → quote_in (default_of o r) q ≡ Some (hydro_price x)
       default q i =
           let own = (demand_3 o calls r accepted l).owned in
           let step = step_to (nat_of x.high) (hydro_price x) in
           let below : q < nat_of x.high = subst (λ (t : List Step). q < end_of (default_of o r).start t) steps_are (own.default_covers q i).below_end in
-          (own.quoted q i).default ∙ ap answer.Price (ap (λ (t : List Step). price_at t q) steps_are ∙ price_here step [] q below)
+          (own.quoted q i).default ∙ ap Some (ap (λ (t : List Step). price_at t q) steps_are ∙ price_here step [] q below)

@@ -1,4 +1,5 @@
 -- Hydro defaults worked out by hand, and here by computation (paper 02, 2.8).
+use Rattle.std.specs.Prelude.{Ok, Err}
 use mathlib.Core.List.{List, [], ◌∷◌, ◌++◌}
 use mathlib.Core.Path.{◌≡◌, refl}
 use Prim.Native.Nat.{ℕ}
@@ -8,6 +9,7 @@ use Rattle.rules_number.specs.Over.{sum_to, all_to, listed, those, sum_over, pad
 use Rattle.rules_curve.specs.Refusals.{number_of, each_to}
 use Rattle.rules_curve.specs.Curves.{step_to, chain, curve_refusal, curve_of, price_at, no_pack}
 use Rattle.rules_curve.specs.declared.Refusal.{Refusal}
+use Rattle.rules_curve.specs.declared.RawCurve.{RawCurve}
 use Rattle.rules_mitigation.specs.Mitigation.{segments_n, joined, joined_after, mitigated, used_steps}
 use Rattle.rules_interval.specs.Intervals.{all_within, factors_good, outputs_good, interval_refusal}
 use Rattle.rules_path.specs.Paths.{demand, supply, share, withholdable, offer, offers, largest, top, total, sellers, left, is_non_competitive}
@@ -21,7 +23,7 @@ use Rattle.rules_hour.specs.Hours.{fresh_standing, curve_in, next_standing, call
 use Rattle.rules_hour.specs.Opened.{fresh_hour, opened_hour}
 use Rattle.rules_hydro.specs.Hydros.{one_step, largest_at, largest_over, gas_floor, short_term_price, long_term, hydro_price, prices_good, limits_good, hydro_refusal, hydro_number, hydro_pack}
 use Rattle.rules_hydro.specs.declared.Hydro.{Hydro}
-use Rattle.rules_hydro.specs.declared.HydroOutcome.TheVariants.{Accepted, OutsideLimits, Refused}
+use Rattle.rules_hydro.specs.declared.HydroRefusal.TheVariants as why
 
 -- a hub by its first prices, the others being 0; and a table of hubs
 abbrev hub : List ℤ → List ℤ
@@ -86,7 +88,7 @@ pub record Hydros : Type 0 where
   pub widest : values (pos 1) (pos 0) (pos 0) (pos 1000000) ≡ 0
   pub before_2 : values (pos 0) (pos 0) (pos 5) (pos 5) ≡ 22
   -- the pack's numbers: 0, 22, and the engine's own
-  pub numbers : (hydro_number Accepted ≡ 0) × (hydro_number OutsideLimits ≡ 22) × ((r : Refusal) → hydro_number (Refused r) ≡ number_of r)
+  pub numbers : ((x : RawCurve) → hydro_number (Ok x) ≡ 0) × (hydro_number {T = RawCurve} (Err why.OutsideLimits) ≡ 22) × ((r : Refusal) → hydro_number {T = RawCurve} (Err (why.Curve r)) ≡ number_of r)
   pub refused_pack : hydro_pack (with (pos 0) (pos 1) (pos 0) (pos 0) 1 1 []) ≡ no_pack
   -- Case T's interval, L 350,100, cuts the bid to the hydro price
   pub taken : opening_refusal hour ≡ 0
@@ -120,7 +122,7 @@ worked = record {
   quantities = (refl, refl, refl);
   widest = refl;
   before_2 = refl;
-  numbers = (refl, refl, λ r. refl);
+  numbers = ((λ x. refl), refl, λ r. refl);
   refused_pack = refl;
   taken = refl;
   cut = refl;

@@ -1,5 +1,5 @@
 -- The hydro default (paper 02, 2.8; 39.7.1.7.1).
-use Rattle.std.specs.Prelude.{Bool, ◌&&◌, List, [], ◌∷◌, ℕ, suc, ◌+◌, ◌-◌, ◌*◌, leb, ℤ, pos, ◌*ℤ◌, get_or}
+use Rattle.std.specs.Prelude.{Bool, ◌&&◌, List, [], ◌∷◌, ℕ, suc, ◌+◌, ◌-◌, ◌*◌, leb, ℤ, pos, ◌*ℤ◌, get_or, Result, Ok, Err}
 use Rattle.rules_number.specs.Ceil.{ceil_div}
 use Rattle.rules_number.specs.Order.{max_z, in_range}
 use Rattle.rules_number.specs.Over.{all_to, highest_to}
@@ -7,8 +7,8 @@ use Rattle.rules_curve.specs.Curves.{default_refusal, raw_with, pack_unless}
 use Rattle.rules_curve.specs.Refusals.{number_of, unless, ◌then◌}
 use Rattle.rules_curve.specs.declared.RawCurve.{RawCurve}
 use Rattle.rules_hydro.specs.declared.Hydro.{Hydro}
-use Rattle.rules_hydro.specs.declared.HydroOutcome.{HydroOutcome}
-use Rattle.rules_hydro.specs.declared.HydroOutcome.TheVariants.{Accepted, OutsideLimits, Refused}
+use Rattle.rules_hydro.specs.declared.HydroRefusal.{HydroRefusal}
+use Rattle.rules_hydro.specs.declared.HydroRefusal.TheVariants as why
 
 -- ---- the curve, as opening takes it from a pack: "one step from a given lowest to a given highest quantity"
 unfoldable pub one_step : ℤ → ℤ → ℤ → RawCurve
@@ -86,10 +86,10 @@ hydro_refusal x = unless (limits_good x) 22 then default_refusal (hydro_curve x)
 abbrev pub hydro_in : ℤ → ℤ → ℤ → ℤ → ℕ → ℕ → List ℤ → Hydro
 hydro_in low high heat gas hubs horizon prices = record { low = low; high = high; heat = heat; gas = gas; hubs = hubs; horizon = horizon; prices = prices }
 
-abbrev pub hydro_number : HydroOutcome → ℕ
-hydro_number Accepted = 0
-hydro_number OutsideLimits = 22
-hydro_number (Refused r) = number_of r
+abbrev pub hydro_number : {T : Type 0} → Result T HydroRefusal → ℕ
+hydro_number (Ok x) = 0
+hydro_number (Err why.OutsideLimits) = 22
+hydro_number (Err (why.Curve r)) = number_of r
 
 -- a refusal returns its number alone: the curve has no step
 abbrev pub hydro_pack : Hydro → RawCurve

@@ -1,6 +1,5 @@
 -- A hydro unit in an hour (paper 02, 2.8): "A cut on a hydro unit has the same causes as on any other."
-use Rattle.std.specs.Prelude.{List, ◌≡◌, ℕ, ◌<◌}
-use Rattle.rules_curve.specs.declared.Quote.TheVariants as answer
+use Rattle.std.specs.Prelude.{List, ◌≡◌, ℕ, ◌<◌, Some}
 use Rattle.rules_opening.specs.Openings.{resource_at, seller_at}
 use Rattle.rules_opening.specs.declared.Opening.{Opening}
 use Rattle.rules_opening.specs.declared.Source.TheVariants as source
@@ -29,4 +28,4 @@ pub record HydroUnit (o : Opening) (calls : List Request) (r : ℕ) (x : Hydro) 
   -- the owner's sentence, as of any resource; the default price in it is the hydro price, at each quantity of the bid
   pub hourly : Demand3 o calls r
   pub five_minute : FiveMinute o calls r
-  pub default : (q : ℕ) → InBid o r q → quote_in (default_of o r) q ≡ answer.Price (hydro_price x)
+  pub default : (q : ℕ) → InBid o r q → quote_in (default_of o r) q ≡ Some (hydro_price x)

@@ -1,4 +1,5 @@
 -- A book of gas prices in slices: what a market's number means, and 21. Assumes nothing.
+use Rattle.std.specs.Prelude.{None, Option, Some}
 use Prim.Native.Nat.{ℕ, zero, suc, ◌≤◌}
 use mathlib.Core.List.{List, [], ◌∷◌}
 use mathlib.Core.Logic.{◌↔◌}
@@ -11,8 +12,6 @@ use Rattle.rules_cost.specs.declared.Costs.{Costs}
 use Rattle.rules_gas.specs.Book.{days_rise, length_of_run, run_in, gas_run, last_price}
 use Rattle.rules_gas.specs.Booked.{with_gas, priced_refusal, priced_curve, list_refusal, list_curve, booked_refusal, booked_curve}
 use Rattle.rules_gas.specs.declared.GasMarket.TheVariants.{DayAhead, RealTime}
-use Rattle.rules_gas.specs.declared.GasPrice.{GasPrice}
-use Rattle.rules_gas.specs.declared.GasPrice.TheVariants.{Is, Missing}
 use Rattle.rules_library.specs.Gas.{list_by, run_count}
 use Rattle.rules_library.proofs.Meaning.{all_steps}
 
@@ -59,6 +58,6 @@ unless_steps : (c : Costs) (n : ℕ) → cost_refusal c ≡ n → n ≡ 0 → le
 unless_steps c zero e z = all_steps c e
 unless_steps c (suc n) e z = absurd (omega arith)
 
-pub priced_steps : (g : GasPrice) (c : Costs) → priced_refusal g c ≡ 0 → length (priced_curve g c).steps ≡ most_steps
-priced_steps Missing c z = absurd (omega arith)
-priced_steps (Is p) c z = unless_steps (with_gas c p) (cost_refusal (with_gas c p)) refl z
+pub priced_steps : (g : Option ℕ) (c : Costs) → priced_refusal g c ≡ 0 → length (priced_curve g c).steps ≡ most_steps
+priced_steps None c z = absurd (omega arith)
+priced_steps (Some p) c z = unless_steps (with_gas c p) (cost_refusal (with_gas c p)) refl z

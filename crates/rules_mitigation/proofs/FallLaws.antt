@@ -1,4 +1,5 @@
 -- Prices that never fall: in the segments of two curves, and after joining. Assumes nothing.
+use Rattle.std.specs.Prelude.{None, Option, Some}
 use mathlib.Core.List.{List, [], ◌∷◌}
 use mathlib.Core.Logic.{⊎_elim}
 use Prim.Native.Nat.{ℕ, zero, suc}
@@ -9,8 +10,6 @@ use Rattle.rules_number.proofs.OrderLaws.{min_mono, max_mono, eq_z_cases}
 use Rattle.rules_mitigation.specs.Mitigation.{capped, segments_n, joined, joined_after}
 use Rattle.rules_curve.specs.Meaning.{NeverBelow, NeverFalling}
 use Rattle.rules_curve.specs.declared.Step.{Step}
-use Rattle.rules_mitigation.specs.declared.FloorPrice.{FloorPrice}
-use Rattle.rules_mitigation.specs.declared.FloorPrice.TheVariants.{Uncut, Cut}
 use Rattle.rules_curve.proofs.PriceLaws.{below_later}
 use Rattle.rules_mitigation.proofs.SegmentLaws.{segments_cases, joined_same, joined_other}
 
@@ -18,9 +17,9 @@ use Rattle.rules_mitigation.proofs.SegmentLaws.{segments_cases, joined_same, joi
 abbrev pub Growing : (ℤ → ℤ → ℤ) → Type 0
 Growing f = (a b c d : ℤ) → a ≤ℤ c → b ≤ℤ d → f a b ≤ℤ f c d
 
-pub capped_growing : (floor : FloorPrice) → Growing (capped floor)
-capped_growing Uncut a b c d h k = h
-capped_growing (Cut l) a b c d h k = min_mono h (max_mono k (≤ℤ_refl l))
+pub capped_growing : (floor : Option ℤ) → Growing (capped floor)
+capped_growing None a b c d h k = h
+capped_growing (Some l) a b c d h k = min_mono h (max_mono k (≤ℤ_refl l))
 
 -- p is at most the first price of the segments
 AtMostFirst : (ℤ → ℤ → ℤ) → ℤ → List Step → List Step → Type 0

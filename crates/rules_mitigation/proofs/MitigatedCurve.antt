@@ -2,6 +2,7 @@
 -- "each quantity's price becomes the smaller of its present price and its cap, the higher of default price and L. Otherwise it stays.
 -- Neighbouring steps with one price are merged, in the opened hour too; 19 steps always suffice." Since a default curve may have 11 steps: "a mitigated one 20".
 -- Assumes nothing.
+use Rattle.std.specs.Prelude.{Option, ℤ}
 use mathlib.Core.List.{List}
 use mathlib.Core.Path.{◌≡◌, refl, sym, ◌∙◌}
 use Prim.Native.Nat.{ℕ, ◌+◌, ◌<◌, ◌≤◌}
@@ -12,12 +13,11 @@ use Rattle.rules_curve.specs.Meaning.{Sound, SoundBid}
 use Rattle.rules_mitigation.specs.Meaning.{Inside, IsMitigated}
 use Rattle.rules_curve.specs.declared.Step.{Step}
 use Rattle.rules_curve.specs.declared.Curve.{Curve}
-use Rattle.rules_mitigation.specs.declared.FloorPrice.{FloorPrice}
 use Rattle.rules_mitigation.proofs.SegmentLaws.{segments_rising, joined_rising}
 use Rattle.rules_mitigation.proofs.FallLaws.{capped_growing, segments_never_fall, joined_never_falls}
 use Rattle.rules_mitigation.proofs.MitigationLaws.{mitigated_length, mitigated_all, mitigated_used, mitigated_end, mitigated_price, joined_apart, only_curve, cut_price}
 
-module _ (floor : FloorPrice) (bid default : Curve) (sb : SoundBid bid) (sd : Sound default) (inside : Inside bid default) where
+module _ (floor : Option ℤ) (bid default : Curve) (sb : SoundBid bid) (sd : Sound default) (inside : Inside bid default) where
   -- "the smaller of its present price and its cap", for every quantity of the bid; it starts and ends where the bid does; merged
   pub mitigated_is : IsMitigated floor bid default (mitigated floor bid default).start (used_steps (mitigated floor bid default))
   unfolding mitigated
@@ -46,7 +46,7 @@ module _ (floor : FloorPrice) (bid default : Curve) (sb : SoundBid bid) (sd : So
   twenty_suffice = mitigated_length floor bid default sd.few
 
 -- "An hour takes an interval and becomes the next hour, so a cut made earlier carries on": a further cut gives the smaller of the present price and the new cap
-module _ (floor k : FloorPrice) (bid default : Curve) (sb : SoundBid bid) (inside : Inside bid default) where
+module _ (floor k : Option ℤ) (bid default : Curve) (sb : SoundBid bid) (inside : Inside bid default) where
   pub further_cut : (q : ℕ) → bid.start ≤ q → q < end_of bid.start (steps_of bid)
       → price_at (mitigated_steps (lowered floor k) bid default) q ≡ capped k (price_at (mitigated_steps floor bid default) q) (price_at (steps_of default) q)
   further_cut = cut_price floor k bid default sb.few sb.sound.rising inside.begins inside.ends

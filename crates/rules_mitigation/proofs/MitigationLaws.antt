@@ -1,4 +1,5 @@
 -- What a mitigated curve is: its price, its ends, its size, one further cut, and that it is the only such curve.
+use Rattle.std.specs.Prelude.{None, Option, Some}
 use mathlib.Core.Bool.{true, false}
 use mathlib.Core.List.{List, [], ◌∷◌}
 use mathlib.Core.Logic.{◌⊎◌, inl, inr, ⊎_elim}
@@ -19,11 +20,9 @@ use Rattle.rules_curve.specs.Meaning.{Rising}
 use Rattle.rules_mitigation.specs.Meaning.{Apart}
 use Rattle.rules_curve.specs.declared.Step.{Step}
 use Rattle.rules_curve.specs.declared.Curve.{Curve}
-use Rattle.rules_mitigation.specs.declared.FloorPrice.{FloorPrice}
-use Rattle.rules_mitigation.specs.declared.FloorPrice.TheVariants.{Uncut, Cut}
 use Rattle.rules_mitigation.proofs.SegmentLaws.{segments_length, joined_same, joined_other, merged_price, segments_end, joined_length, joined_end, reaches_end, segments_none}
 
-module _ (floor : FloorPrice) (bid default : Curve) where
+module _ (floor : Option ℤ) (bid default : Curve) where
   -- 20 steps suffice, whatever the bid
   pub mitigated_length : length (steps_of default) ≤ most_steps → (mitigated floor bid default).count ≤ most_mitigated_steps
   unfolding mitigated
@@ -63,16 +62,16 @@ module _ (floor : FloorPrice) (bid default : Curve) where
         (within_end default.start (steps_of default) q (omega arith) (omega arith))
 
 -- a further cut: the smaller of the price so far and the higher of default and floor price
-pub capped_lowered : (floor : FloorPrice) (l b d : ℤ) → capped (lowered floor (Cut l)) b d ≡ min_z (capped floor b d) (max_z d l)
-capped_lowered Uncut l b d = refl
-capped_lowered (Cut k) l b d = sym (caps_join b d k l)
+pub capped_lowered : (floor : Option ℤ) (l b d : ℤ) → capped (lowered floor (Some l)) b d ≡ min_z (capped floor b d) (max_z d l)
+capped_lowered None l b d = refl
+capped_lowered (Some k) l b d = sym (caps_join b d k l)
 
-pub capped_again : (floor k : FloorPrice) (b d : ℤ) → capped (lowered floor k) b d ≡ capped k (capped floor b d) d
-capped_again floor Uncut b d = refl
-capped_again floor (Cut l) b d = capped_lowered floor l b d
+pub capped_again : (floor k : Option ℤ) (b d : ℤ) → capped (lowered floor k) b d ≡ capped k (capped floor b d) d
+capped_again floor None b d = refl
+capped_again floor (Some l) b d = capped_lowered floor l b d
 
 -- one interval: each quantity's price becomes the smaller of its present price and its cap, or stays
-module _ (floor k : FloorPrice) (bid default : Curve) (few : length (steps_of bid) ≤ most_bid_steps) (rising : Rising bid.start (steps_of bid)) (begins : default.start ≤ bid.start)
+module _ (floor k : Option ℤ) (bid default : Curve) (few : length (steps_of bid) ≤ most_bid_steps) (rising : Rising bid.start (steps_of bid)) (begins : default.start ≤ bid.start)
     (covered : end_of bid.start (steps_of bid) ≤ end_of default.start (steps_of default)) where
   pub cut_price : (q : ℕ) → bid.start ≤ q → q < end_of bid.start (steps_of bid)
       → price_at (mitigated_steps (lowered floor k) bid default) q ≡ capped k (price_at (mitigated_steps floor bid default) q) (price_at (steps_of default) q)

@@ -1,12 +1,11 @@
 -- What the mitigated curve of a bid is, in paper 01's words (Interval and hour). The theorems of proofs/MitigatedCurve.antt are about these.
-use Rattle.std.specs.Prelude.{false, List, [], ◌∷◌, ◌≡◌, ℕ, ◌<◌, ◌≤◌}
+use Rattle.std.specs.Prelude.{false, List, [], ◌∷◌, ◌≡◌, ℕ, ◌<◌, ◌≤◌, Option, ℤ}
 use Rattle.rules_number.specs.Order.{eq_z}
 use Rattle.rules_curve.specs.Curves.{price_at, end_of, steps_of}
 use Rattle.rules_curve.specs.Meaning.{Rising, NeverFalling}
 use Rattle.rules_curve.specs.declared.Step.{Step}
 use Rattle.rules_curve.specs.declared.Curve.{Curve}
 use Rattle.rules_mitigation.specs.Mitigation.{capped}
-use Rattle.rules_mitigation.specs.declared.FloorPrice.{FloorPrice}
 
 -- no two neighbouring steps have one price
 abbrev pub Apart : List Step → Type 0
@@ -20,7 +19,7 @@ pub record Inside (bid default : Curve) : Type 0 where
   pub ends : end_of bid.start (steps_of bid) ≤ end_of default.start (steps_of default)
 
 -- the curve that starts at p with the steps l is the bid, each quantity at the smaller of its bid price and its cap
-pub record IsMitigated (floor : FloorPrice) (bid default : Curve) (p : ℕ) (l : List Step) : Type 0 where
+pub record IsMitigated (floor : Option ℤ) (bid default : Curve) (p : ℕ) (l : List Step) : Type 0 where
   -- it starts and ends where the bid does
   pub starts : p ≡ bid.start
   pub ends : end_of p l ≡ end_of bid.start (steps_of bid)

@@ -1,24 +1,22 @@
 -- The mitigated curve of a bid (paper 01, Interval and hour; 31.2.3, 34.1.5).
-use Rattle.std.specs.Prelude.{cond, List, [], ◌∷◌, ℕ, zero, suc, ◌+◌, leb, ltb, ℤ, length, take}
+use Rattle.std.specs.Prelude.{cond, List, [], ◌∷◌, ℕ, zero, suc, ◌+◌, leb, ltb, ℤ, length, take, None, Option, Some}
 use Rattle.rules_number.specs.Order.{min_z, max_z, eq_z}
 use Rattle.rules_number.specs.Over.{padded}
 use Rattle.rules_curve.specs.Curves.{step_to, blank_step, steps_of, bid_steps}
 use Rattle.rules_curve.specs.declared.Step.{Step}
 use Rattle.rules_curve.specs.declared.Curve.{Curve}
 use Rattle.rules_mitigation.specs.declared.Mitigated.{Mitigated}
-use Rattle.rules_mitigation.specs.declared.FloorPrice.{FloorPrice}
-use Rattle.rules_mitigation.specs.declared.FloorPrice.TheVariants.{Uncut, Cut}
 
 -- the smaller of the price b and its cap, the higher of default price d and floor price
-abbrev pub capped : FloorPrice → ℤ → ℤ → ℤ
-capped Uncut b d = b
-capped (Cut l) b d = min_z b (max_z d l)
+abbrev pub capped : Option ℤ → ℤ → ℤ → ℤ
+capped None b d = b
+capped (Some l) b d = min_z b (max_z d l)
 
 -- the floor after a further cut: the lowest so far
-abbrev pub lowered : FloorPrice → FloorPrice → FloorPrice
-lowered f Uncut = f
-lowered Uncut (Cut l) = Cut l
-lowered (Cut k) (Cut l) = Cut (min_z k l)
+abbrev pub lowered : Option ℤ → Option ℤ → Option ℤ
+lowered f None = f
+lowered None (Some l) = Some l
+lowered (Some k) (Some l) = Some (min_z k l)
 
 -- The steps of the bid, divided where a default step ends, each at the price that f makes of the two prices. at is the lower edge reached.
 -- Each call uses up one step of the bid or of the default curve, so n bounds the calls.
@@ -50,7 +48,7 @@ joined [] = []
 joined (s ∷ l) = joined_after s l
 
 -- the steps of a bid after its cuts
-abbrev pub mitigated_steps : FloorPrice → Curve → Curve → List Step
+abbrev pub mitigated_steps : Option ℤ → Curve → Curve → List Step
 mitigated_steps floor bid default = joined (segments (capped floor) bid.start (bid_steps bid) (steps_of default))
 
 -- the most steps of a mitigated curve, which is its room
@@ -65,7 +63,7 @@ mitigated_of s l = record { start = s; count = length l; steps = padded most_mit
 abbrev pub blank_mitigated : Mitigated
 blank_mitigated = mitigated_of 0 []
 
-unfoldable pub mitigated : FloorPrice → Curve → Curve → Mitigated
+unfoldable pub mitigated : Option ℤ → Curve → Curve → Mitigated
 mitigated floor bid default = mitigated_of bid.start (mitigated_steps floor bid default)
 
 -- the steps that a mitigated curve uses

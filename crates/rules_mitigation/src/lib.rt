@@ -11,13 +11,6 @@ pub struct Mitigated {
     pub steps: [Step; Mitigated::MAX_STEPS],
 }
 
-// The lowest floor price (paper 01's L) of the intervals that cut a resource, or none.
-#[derive(Clone, Copy)]
-pub enum FloorPrice {
-    Uncut,
-    Cut(i64),
-}
-
 impl Mitigated {
     pub const MAX_STEPS: usize = 20;
 }

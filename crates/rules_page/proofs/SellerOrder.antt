@@ -1,9 +1,9 @@
 -- Sellers by weight: what the order is, and that there is no other. Assumes nothing.
+use Rattle.std.specs.Prelude.{None, Option, Some}
 use Prim.Native.Nat.{ℕ, zero, suc, ◌+◌, ◌≤◌, ◌<◌}
 use mathlib.Core.Path.{◌≡◌, refl, sym, ap, ap₂, subst, ◌∙◌}
 use mathlib.Core.List.Memᴰ
 use mathlib.Core.List.{List, [], ◌∷◌, Memᴰ}
-use mathlib.Core.Option.{Option, none, some}
 use mathlib.Core.Bool.{Bool, true, false, cond}
 use mathlib.Core.Logic.{◌≢◌, ◌↔◌, ⊎_elim}
 use native.Mathlib.Decide.{ℕ_discrete}
@@ -32,8 +32,8 @@ Before w p q = (w q ≤ w p) × (w p ≡ w q → p < q)
 -- ---- the one that leads
 -- of 0, .., n - 1 in a set, this one comes before each other; or the set has none of them
 abbrev pub Leads : (ℕ → ℕ) → (ℕ → Bool) → ℕ → Option ℕ → Type 0
-Leads w left n none = (q : ℕ) → q < n → left q ≡ false
-Leads w left n (some p) = (p < n) × (left p ≡ true) × ((q : ℕ) → q < n → left q ≡ true → q ≢ p → Before w p q)
+Leads w left n None = (q : ℕ) → q < n → left q ≡ false
+Leads w left n (Some p) = (p < n) × (left p ≡ true) × ((q : ℕ) → q < n → left q ≡ true → q ≢ p → Before w p q)
 
 module _ (w : ℕ → ℕ) (left : ℕ → Bool) where
   pub leads_are : (n : ℕ) → Leads w left n (leads w left n)
@@ -45,11 +45,11 @@ module _ (w : ℕ → ℕ) (left : ℕ → Bool) where
       lighter : (p q : ℕ) → w p < w n → w q ≤ w p → Before w n q
       lighter p q h k = (omega arith, λ e. absurd (omega (arith, e)))
 
-      after : (p : ℕ) → w p < w n → Leads w left n (some p) → (q : ℕ) → q < n → left q ≡ true → Dec (q ≡ p) → Before w n q
+      after : (p : ℕ) → w p < w n → Leads w left n (Some p) → (q : ℕ) → q < n → left q ≡ true → Dec (q ≡ p) → Before w n q
       after p h s q l t (yes e) = lighter p q h (let k : w q ≡ w p = ap w e in omega arith)
       after p h s q l t (no d) = lighter p q h (s.2 q l t d).0
 
-      beaten : (p : ℕ) (d : Bool) → ltb (w p) (w n) ≡ d → left n ≡ true → Leads w left n (some p) → Leads w left (suc n) (cond d (some n) (some p))
+      beaten : (p : ℕ) (d : Bool) → ltb (w p) (w n) ≡ d → left n ≡ true → Leads w left n (Some p) → Leads w left (suc n) (cond d (Some n) (Some p))
       beaten p true e t h = (
         omega arith,
         t,
@@ -65,14 +65,14 @@ module _ (w : ℕ → ℕ) (left : ℕ → Bool) where
       )
 
       go : (t : Bool) → left n ≡ t → (o : Option ℕ) → Leads w left n o → Leads w left (suc n) (cond t (later w o n) o)
-      go false e none h = λ q l. ⊎_elim (λ z. ap left z ∙ e) (λ m. h q m) (last_or_before q n l)
-      go false e (some p) h = (
+      go false e None h = λ q l. ⊎_elim (λ z. ap left z ∙ e) (λ m. h q m) (last_or_before q n l)
+      go false e (Some p) h = (
         omega (arith, h.0),
         h.1,
         λ q l s d. ⊎_elim (λ z. never (sym (ap left z ∙ e) ∙ s)) (λ m. h.2 q m s d) (last_or_before q n l),
       )
-      go true e none h = (omega arith, e, λ q l s d. ⊎_elim (λ z. absurd (d z)) (λ m. never (sym (h q m) ∙ s)) (last_or_before q n l))
-      go true e (some p) h = beaten p (ltb (w p) (w n)) refl e h
+      go true e None h = (omega arith, e, λ q l s d. ⊎_elim (λ z. absurd (d z)) (λ m. never (sym (h q m) ∙ s)) (last_or_before q n l))
+      go true e (Some p) h = beaten p (ltb (w p) (w n)) refl e h
 
 -- ---- a set without one of its portfolios
 without_self : (p : ℕ) (left : ℕ → Bool) → without p left p ≡ false
@@ -138,8 +138,8 @@ module _ (w : ℕ → ℕ) where
     where
       go : (o : Option ℕ) → Leads w left 16 o → ((p : ℕ) → Memᴰ x (by_weight k w (without p left)) → (x < 16) × (without p left x ≡ true))
           → Memᴰ x (and_then o (λ p. by_weight k w (without p left))) → (x < 16) × (left x ≡ true)
-      go none s ih g = absurd (Memᴰ.not-nil g)
-      go (some p) s ih g =
+      go None s ih g = absurd (Memᴰ.not-nil g)
+      go (Some p) s ih g =
           ⊎_elim (λ e. (omega (arith, e, s.0), ap left e ∙ s.1)) (λ m. let r = ih p m in (r.0, (without_in p left x r.1).1)) (Memᴰ.cases_cons g)
 
   each_of : (k : ℕ) (left : ℕ → Bool) → size left 16 ≤ k → (x : ℕ) → x < 16 → left x ≡ true → Memᴰ x (by_weight k w left)
@@ -149,8 +149,8 @@ module _ (w : ℕ → ℕ) where
     where
       go : (o : Option ℕ) → Leads w left 16 o → ((p : ℕ) → size (without p left) 16 ≤ k → (x : ℕ) → x < 16 → without p left x ≡ true → Memᴰ x (by_weight k w (without p left)))
           → Memᴰ x (and_then o (λ p. by_weight k w (without p left)))
-      go none h ih = never (sym (h x l) ∙ e)
-      go (some p) h ih = there (ℕ_discrete x p)
+      go None h ih = never (sym (h x l) ∙ e)
+      go (Some p) h ih = there (ℕ_discrete x p)
         where
           there : Dec (x ≡ p) → Memᴰ x (p ∷ by_weight k w (without p left))
           there (yes z) = Memᴰ.head z
@@ -178,8 +178,8 @@ module _ (w : ℕ → ℕ) where
   ordered (suc k) left = go (leads w left 16) (leads_are w left 16) (λ p. ordered k (without p left))
     where
       go : (o : Option ℕ) → Leads w left 16 o → ((p : ℕ) → Ordered w (by_weight k w (without p left))) → Ordered w (and_then o (λ p. by_weight k w (without p left)))
-      go none s ih = tt
-      go (some p) s ih = ((λ x m. let r = only_of w k (without p left) x m in let t = without_in p left x r.1 in s.2 x r.0 t.1 t.0), ih p)
+      go None s ih = tt
+      go (Some p) s ih = ((λ x m. let r = only_of w k (without p left) x m in let t = without_in p left x r.1 in s.2 x r.0 t.1 t.0), ih p)
 
   -- as said of two places, and back
   pub in_order : (l : List ℕ) → Ordered w l → (i j : ℕ) → i < j → j < length l → Before w (get_or l i 0) (get_or l j 0)

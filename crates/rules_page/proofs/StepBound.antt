@@ -1,4 +1,5 @@
 -- The steps of a resource's curve: no end is above 1,000,000, and no price is above 1,000,000,000 in size. Assumes nothing.
+use Rattle.std.specs.Prelude.{None, Option, Some}
 use mathlib.Core.Bool.{Bool, true, false, cond}
 use mathlib.Core.List.{List, [], ◌∷◌, map}
 use mathlib.Core.Path.{◌≡◌, refl, sym, subst}
@@ -28,8 +29,6 @@ use Rattle.rules_curve.proofs.RawLaws.{raw_of, raw_back}
 use Rattle.rules_cost.specs.Costs.{mw_at, count_of_steps, cost_step, cost_curve}
 use Rattle.rules_cost.proofs.DefaultCurve.{cost_curve_passes}
 use Rattle.rules_mitigation.specs.Mitigation.{capped, used_steps}
-use Rattle.rules_mitigation.specs.declared.FloorPrice.{FloorPrice}
-use Rattle.rules_mitigation.specs.declared.FloorPrice.TheVariants.{Uncut, Cut}
 use Rattle.rules_interval.specs.declared.Interval.{Interval}
 use Rattle.rules_opening.specs.Openings.{resource_at, counts_good, members_good, opening_refusal}
 use Rattle.rules_opening.specs.Resources.{default_by, source_refusal, resource_refusal}
@@ -97,9 +96,9 @@ bd_parts : (z : ℤ) → P z ≤ 1000000000 → N z ≤ 1000000000 → Bd 100000
 bd_parts (pos n) a b = record { bd = omega arith }
 bd_parts (negsuc n) a b = record { bd = omega arith }
 
-capped_few : (k : FloorPrice) (b d : ℤ) → Bd 1000000000 b → Bd 1000000000 d → Bd 1000000000 (capped k b d)
-capped_few Uncut b d x y = x
-capped_few (Cut l) b d x y = bd_parts (min_z b (max_z d l)) (rw (p_min b (max_z d l)) (omega (arith, x.bd))) (rw (n_min b (max_z d l), n_max d l) (omega (arith, x.bd, y.bd)))
+capped_few : (k : Option ℤ) (b d : ℤ) → Bd 1000000000 b → Bd 1000000000 d → Bd 1000000000 (capped k b d)
+capped_few None b d x y = x
+capped_few (Some l) b d x y = bd_parts (min_z b (max_z d l)) (rw (p_min b (max_z d l)) (omega (arith, x.bd))) (rw (n_min b (max_z d l), n_max d l) (omega (arith, x.bd, y.bd)))
 
 -- each step has the price of its lower edge
 step_prices : (p : ℕ) (l : List Step) → Rising p l → ((q : ℕ) → p ≤ q → q < end_of p l → Bd 1000000000 (price_at l q)) → Every Price l

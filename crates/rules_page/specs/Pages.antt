@@ -1,5 +1,5 @@
 -- Paper 01, Text, and paper 02, 2.3: what an accepted interval prints, and when it is put into a lent buffer.
-use Rattle.std.specs.Prelude.{ℕ, ◌+◌, ◌*◌, ◌≤◌, min, ◌≡◌, List, [], ◌∷◌, ◌++◌, map, Bool, cond, length, take, get_or, leb, pos}
+use Rattle.std.specs.Prelude.{ℕ, ◌+◌, ◌*◌, ◌≤◌, min, ◌≡◌, List, [], ◌∷◌, ◌++◌, map, Bool, cond, length, take, get_or, leb, pos, None, Option, Some}
 use Rattle.std.proofs.lemmas.List.Edits.{sets}
 use Rattle.rules_number.specs.Over.{listed}
 use Rattle.rules_curve.specs.declared.Step.{Step}
@@ -13,8 +13,6 @@ use Rattle.rules_opening.specs.declared.Row as engine
 use Rattle.rules_hour.specs.declared.Floor.{Floor}
 use Rattle.rules_text.specs.Numbers.{Row, bytes}
 use Rattle.rules_text.specs.Printing.{table_text}
-use Rattle.rules_text.specs.declared.Printed.{Printed}
-use Rattle.rules_text.specs.declared.Printed.TheVariants.{To, Full}
 use Rattle.rules_page.specs.Weights.{by_weight}
 
 -- a quantity as it is printed: one past 63 bits, which the paper's limits rule out, as the largest number of 63 bits
@@ -135,5 +133,5 @@ unfoldable pub put_within : ℕ → List ℕ → ℕ → List ℕ → List ℕ
 put_within room out at text = cond (is_room room out at) (sets out at text) out
 
 -- the offset after the text, where it is put
-unfoldable pub put_within_to : ℕ → List ℕ → ℕ → List ℕ → Printed
-put_within_to room out at text = cond (is_room room out at) (To (at + length text)) Full
+unfoldable pub put_within_to : ℕ → List ℕ → ℕ → List ℕ → Option ℕ
+put_within_to room out at text = cond (is_room room out at) (Some (at + length text)) None

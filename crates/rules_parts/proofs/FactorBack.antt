@@ -1,8 +1,8 @@
 -- Factors that rise are read back, each into its cell. Assumes nothing.
+use Rattle.std.specs.Prelude.{Some}
 use Prim.Native.Nat.{ℕ, suc, ◌+◌, ◌*◌, ◌/◌, ◌%◌, ◌^◌, ◌<◌, ◌≤◌}
 use mathlib.Core.Path.{◌≡◌, refl, sym, ap, subst, ◌∙◌}
 use mathlib.Core.List.{List, [], ◌∷◌, ◌++◌, map}
-use mathlib.Core.Option.{some}
 use mathlib.Core.Bool.{Bool, true, false, cond, ◌&&◌}
 use mathlib.Core.Logic.{◌⊎◌, inl, inr, ⊎_elim}
 use native.Mathlib.Omega.{arith}
@@ -28,7 +28,7 @@ use Rattle.rules_text.proofs.ReaderLaws.{Names, Reads, row_every, rows_back, run
 
 -- ---- the lines
 module _ (n m : ℕ) (few : n ≤ 10 ^ 12) (narrow : m ≤ 10 ^ 12) where
-  factor_row_lem : (f : GivenFactor) → FactorFits n m f → row 3 (line_text (factor_row f)) ≡ some (factor_row f)
+  factor_row_lem : (f : GivenFactor) → FactorFits n m f → row 3 (line_text (factor_row f)) ≡ Some (factor_row f)
   factor_row_lem f h = row_every 3 (factor_row f) refl (and_all (omega (arith, h.resource)) (and_all (omega (arith, h.constraint)) (and_all h.factor no_more)))
 
   declared : (k i : ℕ) → i < k → is_declared k (pos i) ≡ true

@@ -1,8 +1,8 @@
 -- The line that is refused is the first faulty one: those before it can be completed to a part, and with it they can't. Assumes nothing.
+use Rattle.std.specs.Prelude.{Some}
 use Prim.Native.Nat.{ℕ, suc}
 use mathlib.Core.Path.{◌≡◌, refl, sym, ap, ◌∙◌}
 use mathlib.Core.List.{List, [], ◌∷◌, ◌++◌, append-nil}
-use mathlib.Core.Option.{some}
 use lib.ListN.{length}
 use lib.IntN.{pos}
 use native.Mathlib.Omega.{arith}
@@ -30,7 +30,7 @@ first_of r p n ls line e =
       never = F.never;
     }
 
-zero_line : single (line_text (pos 0 ∷ [])) ≡ some (pos 0)
+zero_line : single (line_text (pos 0 ∷ [])) ≡ Some (pos 0)
 zero_line = single_back (pos 0) (omega arith)
 
 opening_outer : Outer read_opening Any
@@ -48,7 +48,7 @@ opening_outer =
 pub opening_first : (n : ℕ) (ls : List Line) (line : ℕ) → read_opening n ls ≡ faulty line → First read_opening n ls line
 opening_first = first_of read_opening opening_outer
 
-missing : parameter_of (bytes "-\n") ≡ some (pos 0)
+missing : parameter_of (bytes "-\n") ≡ Some (pos 0)
 unfolding parameter_by
 missing = refl
 

@@ -1,8 +1,8 @@
 -- The text of an interval is read back as that interval. Assumes nothing.
+use Rattle.std.specs.Prelude.{None, Option, Some}
 use Prim.Native.Nat.{ℕ, ◌+◌, ◌^◌, ◌≤◌}
 use mathlib.Core.Path.{◌≡◌, refl, sym, ap, subst, ◌∙◌}
 use mathlib.Core.List.{List, [], ◌∷◌, ◌++◌, map}
-use mathlib.Core.Option.{Option, none, some}
 use mathlib.Core.Bool.{Bool, true, false, cond}
 use native.Mathlib.Omega.{arith}
 use lib.ListN.{length}
@@ -23,18 +23,18 @@ use Rattle.rules_parts.proofs.FactorBack.{factors_back, cells_back}
 use Rattle.rules_parts.proofs.KeptLaws.{kept_array, map_same}
 
 -- ---- the parameter
-there : (z : ℤ) (b : Bool) → same (bytes "-\n") (line_text (z ∷ [])) ≡ b → single (line_text (z ∷ [])) ≡ some z → cond b (some (pos 0)) (single (line_text (z ∷ []))) ≡ some z
+there : (z : ℤ) (b : Bool) → same (bytes "-\n") (line_text (z ∷ [])) ≡ b → single (line_text (z ∷ [])) ≡ Some z → cond b (Some (pos 0)) (single (line_text (z ∷ []))) ≡ Some z
 unfolding single row number magnitude
 there z true e h =
-    let q : single (bytes "-\n") ≡ some z = ap single (same_eq (bytes "-\n") (line_text (z ∷ [])) e) ∙ h in
+    let q : single (bytes "-\n") ≡ Some z = ap single (same_eq (bytes "-\n") (line_text (z ∷ [])) e) ∙ h in
     let o : ◌≡◌ {A = ℕ} 0 1 = cc in
     absurd (omega arith)
 there z false e h = h
 
-pub parameter_back : (p : Option ℤ) → ((z : ℤ) → p ≡ some z → Small z) → parameter_of (parameter_line p) ≡ some (parameter_is p)
+pub parameter_back : (p : Option ℤ) → ((z : ℤ) → p ≡ Some z → Small z) → parameter_of (parameter_line p) ≡ Some (parameter_is p)
 unfolding parameter_by
-parameter_back none h = refl
-parameter_back (some z) h = there z (same (bytes "-\n") (line_text (z ∷ []))) refl (single_back z (h z refl))
+parameter_back None h = refl
+parameter_back (Some z) h = there z (same (bytes "-\n") (line_text (z ∷ []))) refl (single_back z (h z refl))
 
 -- ---- what is read
 module _ (i : GivenInterval) where
@@ -128,8 +128,8 @@ module _ (i : GivenInterval) where
       rows_closed (f ∷ l) = and_all (line_closed (pos f.resource) (pos f.constraint ∷ f.factor ∷ [])) (rows_closed l)
 
       parameter_closed : (p : Option ℤ) → is_line (parameter_line p) ≡ true
-      parameter_closed none = refl
-      parameter_closed (some z) = line_closed z []
+      parameter_closed None = refl
+      parameter_closed (Some z) = line_closed z []
 
   -- the theorem: the text of an interval, whatever follows it, is read as that interval, and what follows is left
   pub interval_back : IntervalFits i → (n : ℕ) (t : List ℕ) → read_interval n (lines (interval_text i ++ t)) ≡ found (interval_is i) (n + length (interval_lines i)) (lines t)

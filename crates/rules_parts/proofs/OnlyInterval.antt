@@ -1,8 +1,8 @@
 -- Whatever is read as an interval is the text of one, with nothing else in it. Assumes nothing.
+use Rattle.std.specs.Prelude.{None, Option, Some}
 use Prim.Native.Nat.{ℕ, suc, ◌*◌, ◌<◌, ◌≤◌}
 use mathlib.Core.Path.{◌≡◌, refl, sym, ap, subst, ◌∙◌}
 use mathlib.Core.List.{List, [], ◌∷◌, ◌++◌, map}
-use mathlib.Core.Option.{Option, none, some}
 use mathlib.Core.Bool.{Bool, true, false, cond, ◌&&◌}
 use mathlib.Core.Logic.{◌⊎◌, inl, inr, ⊎_elim, ◌↔◌}
 use native.Mathlib.Omega.{arith}
@@ -35,34 +35,34 @@ record Parameter (l : Line) (z : ℤ) : Type 0 where
   pub p : Option ℤ
   pub line : l ≡ parameter_line p
   pub value : parameter_is p ≡ z
-  pub small : (y : ℤ) → p ≡ some y → Small y
+  pub small : (y : ℤ) → p ≡ Some y → Small y
 
-parameter_by_lem : (l : Line) (z : ℤ) (b : Bool) → same (bytes "-\n") l ≡ b → cond b (some (pos 0)) (single l) ≡ some z → Parameter l z
-parameter_by_lem l z true e h = record { p = none; line = sym (same_eq (bytes "-\n") l e); value = cc; small = λ y w. no (cc) }
+parameter_by_lem : (l : Line) (z : ℤ) (b : Bool) → same (bytes "-\n") l ≡ b → cond b (Some (pos 0)) (single l) ≡ Some z → Parameter l z
+parameter_by_lem l z true e h = record { p = None; line = sym (same_eq (bytes "-\n") l e); value = cc; small = λ y w. no (cc) }
 parameter_by_lem l z false e h =
     let s = single_only l z h in
-    record { p = some z; line = s.0; value = refl; small = λ y w. let q : z ≡ y = cc in subst Small q s.1 }
+    record { p = Some z; line = s.0; value = refl; small = λ y w. let q : z ≡ y = cc in subst Small q s.1 }
 
-parameter_only : (l : Line) (z : ℤ) → parameter_of l ≡ some z → Parameter l z
+parameter_only : (l : Line) (z : ℤ) → parameter_of l ≡ Some z → Parameter l z
 unfolding parameter_by
 parameter_only l z h = parameter_by_lem l z (same (bytes "-\n") l) refl h
 
 -- paper 02, 2.5, "Missing now means 0": a line is read as a parameter exactly if it is "-" alone, and then as 0, or the line of a number, and then as that
-pub parameter_exactly : (l : Line) (z : ℤ) → (parameter_of l ≡ some z) ↔ (((l ≡ bytes "-\n") × (z ≡ pos 0)) ⊎ ((l ≡ line_text (z ∷ [])) × Small z))
+pub parameter_exactly : (l : Line) (z : ℤ) → (parameter_of l ≡ Some z) ↔ (((l ≡ bytes "-\n") × (z ≡ pos 0)) ⊎ ((l ≡ line_text (z ∷ [])) × Small z))
 parameter_exactly l z = ((λ h. said (parameter_only l z h)), λ s. ⊎_elim missing written s)
   where
-    by : (p : Option ℤ) → l ≡ parameter_line p → parameter_is p ≡ z → ((y : ℤ) → p ≡ some y → Small y) → ((l ≡ bytes "-\n") × (z ≡ pos 0)) ⊎ ((l ≡ line_text (z ∷ [])) × Small z)
-    by none e v s = inl (e, sym v)
-    by (some y) e v s = inr (e ∙ ap (λ (x : ℤ). line_text (x ∷ [])) v, subst Small v (s y refl))
+    by : (p : Option ℤ) → l ≡ parameter_line p → parameter_is p ≡ z → ((y : ℤ) → p ≡ Some y → Small y) → ((l ≡ bytes "-\n") × (z ≡ pos 0)) ⊎ ((l ≡ line_text (z ∷ [])) × Small z)
+    by None e v s = inl (e, sym v)
+    by (Some y) e v s = inr (e ∙ ap (λ (x : ℤ). line_text (x ∷ [])) v, subst Small v (s y refl))
 
     said : Parameter l z → ((l ≡ bytes "-\n") × (z ≡ pos 0)) ⊎ ((l ≡ line_text (z ∷ [])) × Small z)
     said r = by r.p r.line r.value r.small
 
-    missing : (l ≡ bytes "-\n") × (z ≡ pos 0) → parameter_of l ≡ some z
-    missing e = ap parameter_of e.0 ∙ parameter_back none (λ y w. no (cc)) ∙ ap (λ (x : ℤ). some x) (sym e.1)
+    missing : (l ≡ bytes "-\n") × (z ≡ pos 0) → parameter_of l ≡ Some z
+    missing e = ap parameter_of e.0 ∙ parameter_back None (λ y w. no (cc)) ∙ ap (λ (x : ℤ). Some x) (sym e.1)
 
-    written : (l ≡ line_text (z ∷ [])) × Small z → parameter_of l ≡ some z
-    written e = ap parameter_of e.0 ∙ parameter_back (some z) (λ y w. let q : z ≡ y = cc in subst Small q e.1)
+    written : (l ≡ line_text (z ∷ [])) × Small z → parameter_of l ≡ Some z
+    written e = ap parameter_of e.0 ∙ parameter_back (Some z) (λ y w. let q : z ≡ y = cc in subst Small q e.1)
 
 -- ---- outputs
 abbrev output_from : Row → GivenOutput
@@ -208,7 +208,7 @@ record Holds (ls : List Line) (a : Interval) (ls' : List Line) : Type 0 where
   pub constraints : Counts 1 0 cs
   pub outputs : Counts 4 0 os
   pub factors : Factors (length os) (length cs) 0 fs
-  pub small : (y : ℤ) → p ≡ some y → Small y
+  pub small : (y : ℤ) → p ≡ Some y → Small y
 
 holds_of : (ls : List Line) (a : Interval) (ls' : List Line) → FromOne a ls' ls → Holds ls a ls'
 holds_of ls a ls' one =

@@ -1,9 +1,9 @@
 -- What a reader takes as a table is the text of its rows, and of no others. Assumes nothing.
+use Rattle.std.specs.Prelude.{None, Option, Some}
 use Prim.Native.Nat.{ℕ, zero, suc}
 use Prim.Native.String.{String}
 use mathlib.Core.Path.{◌≡◌, refl, sym, ap, subst, ◌∙◌}
 use mathlib.Core.List.{List, [], ◌∷◌, ◌++◌, append_assoc, map}
-use mathlib.Core.Option.{Option, none, some}
 use mathlib.Core.Bool.{Bool, true, false, cond}
 use native.Mathlib.Omega.{arith}
 use borrow.Author.Tests.{eqb-true}
@@ -78,14 +78,14 @@ stage title r f n ls b n' ls' table more h =
 pub record Due {A : Type 0} (is : Line → Option A) (ls : List Line) (a : A) (ls' : List Line) : Type 0 where
   pub line : Line
   pub lines : ls ≡ line ∷ ls'
-  pub reads : is line ≡ some a
+  pub reads : is line ≡ Some a
 
 due_by : {A : Type 0} (is : Line → Option A) (n : ℕ) (l : Line) (ls : List Line) (a : A) (n' : ℕ) (ls' : List Line) (o : Option A) → is l ≡ o → taken o n ls ≡ found a n' ls' → Due is (l ∷ ls) a ls'
-due_by is n l ls a n' ls' none e h = no (cc)
-due_by is n l ls a n' ls' (some b) e h =
+due_by is n l ls a n' ls' None e h = no (cc)
+due_by is n l ls a n' ls' (Some b) e h =
     let p : b ≡ a = cc in
     let t : ls ≡ ls' = cc in
-    record { line = l; lines = ap (λ (u : List Line). l ∷ u) t; reads = e ∙ ap some p }
+    record { line = l; lines = ap (λ (u : List Line). l ∷ u) t; reads = e ∙ ap Some p }
 
 pub due_only : {A : Type 0} (is : Line → Option A) (n : ℕ) (ls : List Line) (a : A) (n' : ℕ) (ls' : List Line) → due is n ls ≡ found a n' ls' → Due is ls a ls'
 unfolding due
@@ -101,11 +101,11 @@ one_row l (y ∷ []) z s e = go s.small
     go (and_all p q) = (s.is ∙ ap (λ (w : ℤ). line_text (w ∷ [])) e, subst Small e p)
 one_row l (y ∷ w ∷ x) z s e = absurd (omega (arith, s.count))
 
-one_by : (l : Line) (z : ℤ) (o : Option Row) → row 1 l ≡ o → one o ≡ some z → (l ≡ line_text (z ∷ [])) × Small z
-one_by l z none e h = no (cc)
-one_by l z (some x) e h = let q : cell 0 x ≡ z = cc in one_row l x z (row_only 1 l x e) q
+one_by : (l : Line) (z : ℤ) (o : Option Row) → row 1 l ≡ o → one o ≡ Some z → (l ≡ line_text (z ∷ [])) × Small z
+one_by l z None e h = no (cc)
+one_by l z (Some x) e h = let q : cell 0 x ≡ z = cc in one_row l x z (row_only 1 l x e) q
 
-pub single_only : (l : Line) (z : ℤ) → single l ≡ some z → (l ≡ line_text (z ∷ [])) × Small z
+pub single_only : (l : Line) (z : ℤ) → single l ≡ Some z → (l ≡ line_text (z ∷ [])) × Small z
 unfolding single
 single_only l z h = one_by l z (row 1 l) refl h
 
@@ -128,15 +128,15 @@ pub record Suited (k : ℕ) (suits : Row → Bool) (l : Line) (x : Row) : Type 0
   pub spelled : Spelled k l x
   pub test : suits x ≡ true
 
-suited_by : (k : ℕ) (suits : Row → Bool) (l : Line) (x y : Row) (b : Bool) → row k l ≡ some y → suits y ≡ b → cond b (some y) none ≡ some x → Suited k suits l x
+suited_by : (k : ℕ) (suits : Row → Bool) (l : Line) (x y : Row) (b : Bool) → row k l ≡ Some y → suits y ≡ b → cond b (Some y) None ≡ Some x → Suited k suits l x
 suited_by k suits l x y true e s h = let q : y ≡ x = cc in subst (Suited k suits l) q (record { spelled = row_only k l y e; test = s })
 suited_by k suits l x y false e s h = no (cc)
 
-suited_of : (k : ℕ) (suits : Row → Bool) (l : Line) (x : Row) (o : Option Row) → row k l ≡ o → if_suits suits o ≡ some x → Suited k suits l x
-suited_of k suits l x none e h = no (cc)
-suited_of k suits l x (some y) e h = suited_by k suits l x y (suits y) e refl h
+suited_of : (k : ℕ) (suits : Row → Bool) (l : Line) (x : Row) (o : Option Row) → row k l ≡ o → if_suits suits o ≡ Some x → Suited k suits l x
+suited_of k suits l x None e h = no (cc)
+suited_of k suits l x (Some y) e h = suited_by k suits l x y (suits y) e refl h
 
-pub suited : (k : ℕ) (suits : Row → Bool) (l : Line) (x : Row) → if_suits suits (row k l) ≡ some x → Suited k suits l x
+pub suited : (k : ℕ) (suits : Row → Bool) (l : Line) (x : Row) → if_suits suits (row k l) ≡ Some x → Suited k suits l x
 suited k suits l x h = suited_of k suits l x (row k l) refl h
 
 -- ---- a run is the lines of its rows, and each row suits
@@ -150,8 +150,8 @@ module _ (k : ℕ) (suits : ℕ → Row → Bool) (after : ℕ → Row → ℕ) 
     pub is : ls ≡ map line_text xs ++ drop (length xs) ls
 
   ran_by : (i : ℕ) (l : Line) (ls : List Line) (o : Option Row) → if_suits (suits i) (row k l) ≡ o → ((j : ℕ) → Ran j ls (run k suits after j ls)) → Ran i (l ∷ ls) (and_more o (λ x. run k suits after (after i x) ls))
-  ran_by i l ls none e ih = record { runs = ended; is = refl }
-  ran_by i l ls (some x) e ih =
+  ran_by i l ls None e ih = record { runs = ended; is = refl }
+  ran_by i l ls (Some x) e ih =
       let s = suited k (suits i) l x e in
       let r = ih (after i x) in
       record { runs = goes s r.runs; is = ap (λ (y : Line). y ∷ ls) s.spelled.is ∙ ap (λ (t : List Line). line_text x ∷ t) r.is }

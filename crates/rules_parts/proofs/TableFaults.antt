@@ -1,9 +1,9 @@
 -- The first faulty line of each kind of table. Assumes nothing.
+use Rattle.std.specs.Prelude.{None, Option, Some}
 use Prim.Native.Nat.{ℕ, zero, suc, ◌+◌, ◌^◌, ◌<◌, ◌≤◌}
 use Prim.Native.String.{String}
 use mathlib.Core.Path.{◌≡◌, refl, sym, ap, subst, ◌∙◌}
 use mathlib.Core.List.{List, [], ◌∷◌, ◌++◌, map}
-use mathlib.Core.Option.{Option, none, some}
 use mathlib.Core.Bool.{Bool, true, false, cond}
 use mathlib.Core.Logic.{inl, inr, ⊎_elim}
 use native.Mathlib.Omega.{arith}
@@ -14,7 +14,6 @@ use lib.Seq.{length-take-le, drop_at}
 use lib.IntN.{pos, negsuc}
 use Rattle.rules_number.specs.Order.{eq_z}
 use Rattle.rules_number.proofs.OverLaws.{never}
-use Rattle.rules_text.specs.declared.Number.TheVariants.{Not}
 use Rattle.rules_text.specs.Numbers.{Line, Row, bytes, same, number, magnitude, row}
 use Rattle.rules_text.specs.Tables.{Reader, Reading, found, faulty, next, ◌▷◌, taken, due, headed, cell, if_suits, has_id, and_more, run, rows, counting, counted, each, grouped, pairs}
 use Rattle.rules_text.proofs.StageLaws.{run_few}
@@ -32,7 +31,7 @@ abbrev pub Any : {A : Type 0} → A → Type 0
 Any a = a ≡ a
 
 -- ---- a names line
-module _ {A : Type 0} (names : String) (r : Reader A) (Q : A → Type 0) (are : number (bytes names) ≡ Not) (p : Inner r Q) where
+module _ {A : Type 0} (names : String) (r : Reader A) (Q : A → Type 0) (are : number (bytes names) ≡ None) (p : Inner r Q) where
   reads_headed : (n : ℕ) (rest : List Line) → Names rest → headed names r n ((bytes names ∷ p.possible.ls) ++ rest) ≡ found p.possible.value (n + length (bytes names ∷ p.possible.ls)) rest
   reads_headed n rest h = headed_back names r p.possible.ls p.possible.value rest (λ k. p.possible.reads k rest h) n
 
@@ -117,8 +116,8 @@ module _ {A : Type 0} (names : String) (r : Reader A) (Q : A → Type 0) (are : 
 module _ {A : Type 0} (is : Line → Option A) where
   due_by : (n : ℕ) (l : Line) (ls : List Line) (a : A) (n' : ℕ) (ls' : List Line) (o : Option A) → is l ≡ o → taken o n ls ≡ found a n' ls' → Locally (due is) Any n (l ∷ ls) a n' ls'
   unfolding due
-  due_by n l ls a n' ls' none e h = no (cc)
-  due_by n l ls a n' ls' (some b) e h =
+  due_by n l ls a n' ls' None e h = no (cc)
+  due_by n l ls a n' ls' (Some b) e h =
       let p : b ≡ a = cc in
       let c : suc n ≡ n' = cc in
       let t : ls ≡ ls' = cc in
@@ -135,8 +134,8 @@ module _ {A : Type 0} (is : Line → Option A) where
   due_local n [] a n' ls' h = no (cc)
   due_local n (l ∷ ls) a n' ls' h = due_by n l ls a n' ls' (is l) refl h
 
-  module _ (l : Line) (a : A) (one : is l ≡ some a) where
-    refused : (n : ℕ) (ls : List Line) (line : ℕ) → suc n ≡ line → ((x : Line) (tail : List Line) → ls ≡ x ∷ tail → is x ≡ none) → Fault (due is) Any n ls line
+  module _ (l : Line) (a : A) (one : is l ≡ Some a) where
+    refused : (n : ℕ) (ls : List Line) (line : ℕ) → suc n ≡ line → ((x : Line) (tail : List Line) → ls ≡ x ∷ tail → is x ≡ None) → Fault (due is) Any n ls line
     unfolding due
     refused n ls line e h = record {
       start = [];
@@ -151,8 +150,8 @@ module _ {A : Type 0} (is : Line → Option A) where
     }
 
     due_fault_by : (n : ℕ) (x : Line) (ls : List Line) (line : ℕ) (o : Option A) → is x ≡ o → taken o n ls ≡ faulty line → Fault (due is) Any n (x ∷ ls) line
-    due_fault_by n x ls line none e h = let q : suc n ≡ line = cc in refused n (x ∷ ls) line q (λ y tail w. let z : x ≡ y = cc in ap is (sym z) ∙ e)
-    due_fault_by n x ls line (some b) e h = no (cc)
+    due_fault_by n x ls line None e h = let q : suc n ≡ line = cc in refused n (x ∷ ls) line q (λ y tail w. let z : x ≡ y = cc in ap is (sym z) ∙ e)
+    due_fault_by n x ls line (Some b) e h = no (cc)
 
     due_fault : (n : ℕ) (ls : List Line) (line : ℕ) → due is n ls ≡ faulty line → Fault (due is) Any n ls line
     unfolding due
@@ -206,13 +205,13 @@ module _ (of : List Line → List Row) (Q : List Row → Type 0) (p : Rows of Q)
 -- ---- runs
 module _ (k : ℕ) (suits : ℕ → Row → Bool) (after : ℕ → Row → ℕ) where
   -- a run ends where the first line does not suit
-  run_ends : (i : ℕ) (l : Line) (ls : List Line) → if_suits (suits i) (row (suc k) l) ≡ none → get_or ls 0 [] ≡ l → run (suc k) suits after i ls ≡ []
+  run_ends : (i : ℕ) (l : Line) (ls : List Line) → if_suits (suits i) (row (suc k) l) ≡ None → get_or ls 0 [] ≡ l → run (suc k) suits after i ls ≡ []
   unfolding run
   run_ends i l [] e h = refl
   run_ends i l (x ∷ ls) e h = ap (λ (o : Option Row). and_more o (λ y. run (suc k) suits after (after i y) ls)) (ap (λ (y : Line). if_suits (suits i) (row (suc k) y)) h ∙ e)
 
   -- no line is no row
-  no_line : (i : ℕ) → if_suits (suits i) (row (suc k) []) ≡ none
+  no_line : (i : ℕ) → if_suits (suits i) (row (suc k) []) ≡ None
   unfolding row number magnitude
   no_line i = refl
 
@@ -224,8 +223,8 @@ module _ (k : ℕ) (suits : ℕ → Row → Bool) (after : ℕ → Row → ℕ) 
       → Alike (drop (length (and_more o (λ y. from (after i y) ls))) (l ∷ ls)) other
       → from i (take (length (and_more o (λ y. from (after i y) ls))) (l ∷ ls) ++ other) ≡ and_more o (λ y. from (after i y) ls)
   unfolding run
-  run_by i l ls other none e ih w = ⊎_elim (λ h. run_names k suits after i other h) (λ h. run_ends i l other e (sym h)) w
-  run_by i l ls other (some x) e ih w =
+  run_by i l ls other None e ih w = ⊎_elim (λ h. run_names k suits after i other h) (λ h. run_ends i l other e (sym h)) w
+  run_by i l ls other (Some x) e ih w =
       ap (λ (o : Option Row). and_more o (λ y. from (after i y) (take (length (from (after i x) ls)) ls ++ other))) e
       ∙ ap (λ (t : List Row). x ∷ t) (ih (after i x) w)
 
@@ -247,10 +246,10 @@ id_small i (pos j ∷ x) (and_all s r) h e = let q = eqb-true i j e in omega ari
 id_small i (negsuc j ∷ x) s h e = never e
 
 few_by : (k i : ℕ) (l : Line) (xs : List Row) (o : Option Row) → row (suc k) l ≡ o → i ≤ 10 ^ 12 → (i < 10 ^ 12 → suc i + length xs ≤ 10 ^ 12) → i + length (and_more (if_suits (has_id i) o) (λ y. xs)) ≤ 10 ^ 12
-few_by k i l xs none e h ih = omega arith
-few_by k i l xs (some x) e h ih = go (has_id i x) refl
+few_by k i l xs None e h ih = omega arith
+few_by k i l xs (Some x) e h ih = go (has_id i x) refl
   where
-    go : (b : Bool) → has_id i x ≡ b → i + length (and_more (cond b (some x) none) (λ y. xs)) ≤ 10 ^ 12
+    go : (b : Bool) → has_id i x ≡ b → i + length (and_more (cond b (Some x) None) (λ y. xs)) ≤ 10 ^ 12
     go true q = let s = row_only (suc k) l x e in let r = ih (id_small i x s.small (omega (arith, s.count)) q) in omega arith
     go false q = omega arith
 
@@ -340,7 +339,7 @@ module _ (k : ℕ) where
 
   module _ (m r : ℕ) (h : r + suc m ≤ 10 ^ 12) (n : ℕ) (line : ℕ) where
     -- another line, or none, in the place of the first
-    each_refused : (ls : List Line) → suc n ≡ line → ((x : Line) (tail : List Line) → ls ≡ x ∷ tail → if_suits (has_id r) (row (suc k) x) ≡ none) → Fault (each (suc k) (suc m) r) Any n ls line
+    each_refused : (ls : List Line) → suc n ≡ line → ((x : Line) (tail : List Line) → ls ≡ x ∷ tail → if_suits (has_id r) (row (suc k) x) ≡ None) → Fault (each (suc k) (suc m) r) Any n ls line
     unfolding each due
     each_refused ls e w = record {
       start = [];
@@ -355,7 +354,7 @@ module _ (k : ℕ) where
     }
 
     -- a line in the place of the first, and the fault further on
-    each_later : (l : Line) (ls : List Line) (x : Row) → if_suits (has_id r) (row (suc k) l) ≡ some x → Fault (each (suc k) m (suc r)) Any (suc n) ls line → Fault (each (suc k) (suc m) r) Any n (l ∷ ls) line
+    each_later : (l : Line) (ls : List Line) (x : Row) → if_suits (has_id r) (row (suc k) l) ≡ Some x → Fault (each (suc k) m (suc r)) Any (suc n) ls line → Fault (each (suc k) (suc m) r) Any n (l ∷ ls) line
     unfolding each due
     each_later l ls x e F =
         let through : (t : List Line) → each (suc k) (suc m) r n (l ∷ t) ≡ next (each (suc k) m (suc r) (suc n) t) (λ ys. found (x ∷ ys)) =
@@ -377,8 +376,8 @@ module _ (k : ℕ) where
 
     each_by : (l : Line) (ls : List Line) (o : Option Row) → if_suits (has_id r) (row (suc k) l) ≡ o → next (taken o n ls) (λ y. each (suc k) m (suc r) ▷ λ ys. found (y ∷ ys)) ≡ faulty line
         → (each (suc k) m (suc r) (suc n) ls ≡ faulty line → Fault (each (suc k) m (suc r)) Any (suc n) ls line) → Fault (each (suc k) (suc m) r) Any n (l ∷ ls) line
-    each_by l ls none e w ih = let q : suc n ≡ line = cc in each_refused (l ∷ ls) q (λ x tail z. let y : l ≡ x = cc in ap (λ (t : Line). if_suits (has_id r) (row (suc k) t)) (sym y) ∙ e)
-    each_by l ls (some x) e w ih = each_later l ls x e (ih (some_found (each (suc k) m (suc r) (suc n) ls) (λ ys. x ∷ ys) line w))
+    each_by l ls None e w ih = let q : suc n ≡ line = cc in each_refused (l ∷ ls) q (λ x tail z. let y : l ≡ x = cc in ap (λ (t : Line). if_suits (has_id r) (row (suc k) t)) (sym y) ∙ e)
+    each_by l ls (Some x) e w ih = each_later l ls x e (ih (some_found (each (suc k) m (suc r) (suc n) ls) (λ ys. x ∷ ys) line w))
 
   each_fault : (m r : ℕ) → r + m ≤ 10 ^ 12 → (n : ℕ) (ls : List Line) (line : ℕ) → each (suc k) m r n ls ≡ faulty line → Fault (each (suc k) m r) Any n ls line
   unfolding each due

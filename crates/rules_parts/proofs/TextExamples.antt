@@ -1,7 +1,7 @@
 -- The texts of Case T's values are the page's. Assumes nothing.
+use Rattle.std.specs.Prelude.{Some}
 use mathlib.Core.Path.{◌≡◌, refl}
 use mathlib.Core.List.{[], ◌∷◌}
-use mathlib.Core.Option.{some}
 use lib.IntN.{pos, negsuc}
 use Rattle.rules_text.specs.Numbers.{bytes}
 use Rattle.rules_text.specs.Printing.{digits, decimal, line_text}
@@ -36,7 +36,7 @@ interval = record {
   shadows = pos 500000 ∷ [];
   outputs = record { lmp = pos 600000; dispatch = pos 20000; available = pos 30000; floor = pos 0 } ∷ [];
   factors = record { resource = 0; constraint = 0; factor = negsuc 499999 } ∷ [];
-  parameter = some (pos 100);
+  parameter = Some (pos 100);
 }
 
 holds : interval_text interval ≡ bytes "constraint shadow\n0 500000\nresource lmp dispatch available floor\n0 600000 20000 30000 0\nresource constraint factor\n0 0 -500000\nparameter\n100\n"

@@ -1,6 +1,5 @@
 -- Paper 01, Text: the two kinds of part, read into what the engine takes.
-use Rattle.std.specs.Prelude.{ℕ, suc, ◌+◌, ◌*◌, List, [], ◌∷◌, map, Bool, cond, ◌&&◌, length, set, replicate, leb, ltb, ℤ, pos}
-use Rattle.std.proofs.Math.Option.{Option, some}
+use Rattle.std.specs.Prelude.{ℕ, suc, ◌+◌, ◌*◌, List, [], ◌∷◌, map, Bool, cond, ◌&&◌, length, set, replicate, leb, ltb, ℤ, pos, Option, Some}
 use Rattle.std.specs.Int.Signed.{le_z, lt_z}
 use Rattle.rules_number.specs.Order.{nat_of}
 use Rattle.rules_curve.specs.declared.RawStep.{RawStep}
@@ -128,7 +127,7 @@ interval_of constraints resources factors parameter = record {
 
 -- ---- "Parameter "-" alone is missing"; `missing` is what it means then
 unfoldable pub parameter_by : ℤ → Line → Option ℤ
-parameter_by missing l = cond (same (bytes "-\n") l) (some missing) (single l)
+parameter_by missing l = cond (same (bytes "-\n") l) (Some missing) (single l)
 
 unfoldable pub read_interval_by : ℤ → Reader Interval
 read_interval_by missing =

@@ -1,6 +1,5 @@
 -- Paper 01, Text, the other way round: the text of an opening and of an interval, table by table as the page shows them, and what is to be read from it.
-use Rattle.std.specs.Prelude.{ℕ, ◌/◌, ◌%◌, ◌^◌, ◌<◌, ◌≤◌, ◌≡◌, List, [], ◌∷◌, ◌++◌, map, cond, ◌&&◌, ◌⊎◌, eqb, length, take, ℤ, pos}
-use Rattle.std.proofs.Math.Option.{Option, none, some}
+use Rattle.std.specs.Prelude.{ℕ, ◌/◌, ◌%◌, ◌^◌, ◌<◌, ◌≤◌, ◌≡◌, List, [], ◌∷◌, ◌++◌, map, cond, ◌&&◌, ◌⊎◌, eqb, length, take, ℤ, pos, Option, Some, None}
 use Rattle.rules_number.specs.Over.{listed, padded}
 use Rattle.rules_curve.specs.declared.RawStep.{RawStep}
 use Rattle.rules_curve.specs.declared.RawCurve.{RawCurve}
@@ -143,13 +142,13 @@ factor_row f = pos f.resource ∷ pos f.constraint ∷ f.factor ∷ []
 
 -- "Parameter "-" alone is missing"
 abbrev pub parameter_line : Option ℤ → Line
-parameter_line none = bytes "-\n"
-parameter_line (some z) = line_text (z ∷ [])
+parameter_line None = bytes "-\n"
+parameter_line (Some z) = line_text (z ∷ [])
 
 -- paper 02, 2.5: "Missing now means 0"
 abbrev pub parameter_is : Option ℤ → ℤ
-parameter_is none = pos 0
-parameter_is (some z) = z
+parameter_is None = pos 0
+parameter_is (Some z) = z
 
 unfoldable pub interval_lines : GivenInterval → List Line
 interval_lines i =
@@ -218,7 +217,7 @@ pub record IntervalSmall (i : GivenInterval) : Type 0 where
   pub outputs : Every (λ o. Every Small (output_row o)) i.outputs
   pub factor : Every (FactorFits (length i.outputs) (length i.shadows)) i.factors
   pub factors : Rising i.factors
-  pub parameter : (z : ℤ) → i.parameter ≡ some z → Small z
+  pub parameter : (z : ℤ) → i.parameter ≡ Some z → Small z
 
 -- and its ids are small
 pub record IntervalFits (i : GivenInterval) : Type 0 where

@@ -1,5 +1,6 @@
 -- The five-minute price, as one statement over every list of calls (paper 02, 2.1): "A five-minute price is the least of that interval's price and the caps of its
 -- accepted passes with a cut, for every list of passes." Assumes nothing.
+use Rattle.std.specs.Prelude.{Option}
 use mathlib.Core.List.{List}
 use mathlib.Core.Path.{◌≡◌, sym, ap, ap₂, ◌∙◌}
 use Prim.Native.Nat.{ℕ, ◌<◌}
@@ -7,7 +8,6 @@ use lib.IntN.{ℤ}
 use Rattle.rules_number.specs.Least.{least}
 use Rattle.rules_curve.specs.declared.Curve.{Curve}
 use Rattle.rules_mitigation.specs.Mitigation.{capped, lowered, mitigated}
-use Rattle.rules_mitigation.specs.declared.FloorPrice.{FloorPrice}
 use Rattle.rules_mitigation.proofs.MitigationLaws.{capped_again}
 use Rattle.rules_opening.specs.Openings.{opening_refusal}
 use Rattle.rules_opening.specs.declared.Opening.{Opening}
@@ -26,10 +26,10 @@ module _ (o : Opening) (calls : List Request) (r : ℕ) (accepted : opening_refu
   agreed = hour_agrees o accepted calls
 
   -- the floor price of the intervals, the one of the passes, and the lower of the two
-  abbrev hours : FloorPrice
+  abbrev hours : Option ℤ
   hours = (floor_in (hour_of o calls).hour r).price
 
-  abbrev quarters : FloorPrice
+  abbrev quarters : Option ℤ
   quarters = (pass_floor_in (hour_of o calls) r).price
 
   five_minute_shape : Shape o r (lowered hours quarters) (five_minute_after o calls r)

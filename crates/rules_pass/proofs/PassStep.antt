@@ -1,4 +1,5 @@
 -- One more pass (paper 02, 2.1): "The first starts from that interval's curves, each later one from the pass before." Assumes nothing.
+use Rattle.std.specs.Prelude.{Option}
 use mathlib.Core.List.{List, [], ◌∷◌, ◌++◌}
 use mathlib.Core.Logic.{◌↔◌, ◌⊎◌, inl, inr, ⊎_elim}
 use mathlib.Core.Path.{◌≡◌, refl, sym, ap, subst, ◌∙◌}
@@ -15,7 +16,6 @@ use Rattle.rules_curve.specs.Demands.{◌asks◌, First, Met}
 use Rattle.rules_curve.proofs.FirstLaws.{exactly, none_exactly}
 use Rattle.rules_mitigation.specs.Mitigation.{capped, used_steps}
 use Rattle.rules_mitigation.specs.declared.Mitigated.{Mitigated}
-use Rattle.rules_mitigation.specs.declared.FloorPrice.{FloorPrice}
 use Rattle.rules_mitigation.proofs.MitigationLaws.{capped_again}
 use Rattle.rules_interval.specs.Conditions.{Ranged, Able, interval_demands}
 use Rattle.rules_interval.specs.Intervals.{lmp_at, dispatch_at, interval_refusal}
@@ -99,8 +99,8 @@ module _ (o : Opening) (calls : List Request) (v : Interval) (r : ℕ) (accepted
   pass_by_pass = record {
     cuts = cut_by;
     smaller = λ e d C h a p k q i.
-        cut_by e q i ∙ ap (λ (x : FloorPrice). capped x (five_minute_price o calls r q) (default_price o r q)) (cut_exactly o accepted v (sound e) r C h d a p k);
-    stays = λ e C h a q i. cut_by e q i ∙ ap (λ (x : FloorPrice). capped x (five_minute_price o calls r q) (default_price o r q)) (uncut_exactly o accepted v (sound e) r C h a);
+        cut_by e q i ∙ ap (λ (x : Option ℤ). capped x (five_minute_price o calls r q) (default_price o r q)) (cut_exactly o accepted v (sound e) r C h d a p k);
+    stays = λ e C h a q i. cut_by e q i ∙ ap (λ (x : Option ℤ). capped x (five_minute_price o calls r q) (default_price o r q)) (uncut_exactly o accepted v (sound e) r C h a);
     refused = λ n e. one_more (opened_real_time o) calls (pass v) ∙ refused_pass (hour_of o calls) v n e;
     hourly = same_curve;
   }

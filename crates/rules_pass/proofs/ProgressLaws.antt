@@ -1,4 +1,5 @@
 -- The hour in real time after a list of calls, and what the opening data and the calls alone say of it. Assumes nothing.
+use Rattle.std.specs.Prelude.{None, Option, Some}
 use mathlib.Core.Bool.{Bool, ◌&&◌}
 use mathlib.Core.List.Memᴰ
 use mathlib.Core.List.{List, [], ◌∷◌, ◌++◌, Memᴰ}
@@ -15,8 +16,6 @@ use Rattle.rules_number.specs.Least.{least}
 use Rattle.rules_number.proofs.OverLaws.{le_or_lt}
 use Rattle.rules_curve.specs.Refusals.{unless, ◌then◌}
 use Rattle.rules_mitigation.specs.Mitigation.{capped}
-use Rattle.rules_mitigation.specs.declared.FloorPrice.{FloorPrice}
-use Rattle.rules_mitigation.specs.declared.FloorPrice.TheVariants.{Uncut, Cut}
 use Rattle.rules_mitigation.proofs.MitigationLaws.{capped_again}
 use Rattle.rules_interval.specs.Intervals.{interval_refusal}
 use Rattle.rules_interval.specs.declared.Interval.{Interval}
@@ -96,15 +95,15 @@ progress_intervals o calls = intervals_counted o.resources calls none_yet
 
 -- ---- what a list leaves
 -- one pass more among the caps
-cap_last : (k : FloorPrice) (b d : ℤ) → least b (with_cap k d []) ≡ capped k b d
+cap_last : (k : Option ℤ) (b d : ℤ) → least b (with_cap k d []) ≡ capped k b d
 unfolding least
-cap_last Uncut b d = refl
-cap_last (Cut l) b d = refl
+cap_last None b d = refl
+cap_last (Some l) b d = refl
 
-behind : (k j : FloorPrice) (b d : ℤ) (more rest : List ℤ) → ((x : ℤ) → least x more ≡ capped k (least x rest) d) → least b (with_cap j d more) ≡ capped k (least b (with_cap j d rest)) d
+behind : (k j : Option ℤ) (b d : ℤ) (more rest : List ℤ) → ((x : ℤ) → least x more ≡ capped k (least x rest) d) → least b (with_cap j d more) ≡ capped k (least b (with_cap j d rest)) d
 unfolding least
-behind k Uncut b d more rest h = h b
-behind k (Cut x) b d more rest h = h _
+behind k None b d more rest h = h b
+behind k (Some x) b d more rest h = h _
 
 caps_more : (m : Market) (r : ℕ) (b d : ℤ) (l : List Interval) (v : Interval) → least b (caps_in m r d (l ++ (v ∷ []))) ≡ capped (cut_of m v r) (least b (caps_in m r d l)) d
 unfolding caps_in least

@@ -1,4 +1,5 @@
 -- Short on every path together, in the request's words. Assumes nothing.
+use Rattle.std.specs.Prelude.{None, Option, Some}
 use mathlib.Core.Bool.{Bool, true, false, cond}
 use mathlib.Core.Logic.{◌↔◌, ◌⊎◌}
 use mathlib.Core.Path.{◌≡◌, refl, sym, ap, ◌∙◌}
@@ -28,8 +29,6 @@ use Rattle.rules_mask.proofs.SizeLaws.{set_ones}
 use Rattle.rules_pivotal.specs.Meaning.{OfNetSellers, full_of, Works, IsFloor}
 use Rattle.rules_pivotal.specs.Pivotals.{net_sellers, works_in, suffices, first_to, need_of, floor_of, none_found, found_with, pivotal_in, pivotal_refusal, pivotal_unless, pivotal_of}
 use Rattle.rules_pivotal.specs.Searches.{searched}
-use Rattle.rules_pivotal.specs.declared.Best.{Best}
-use Rattle.rules_pivotal.specs.declared.Best.TheVariants as best
 use Rattle.rules_pivotal.specs.declared.Pivotal.{Pivotal}
 use Rattle.rules_pivotal.proofs.Exactly.{SomeBinds, taken}
 use Rattle.rules_pivotal.proofs.FloorLaws.{first_le, first_holds, possible_most, top_is_possible, floor_below, floor_is}
@@ -85,9 +84,9 @@ pub record Together (m : Market) (v : Interval) (budget best tried floor : ℕ) 
 
 pub data Says (m : Market) (v : Interval) (budget : ℕ) (r : Pivotal) : Type 0 where
   -- "If all net sellers together can't, no set of them can, and the result is none, with 0 sets tried and floor 0."
-  none : (Works m v (net_sellers m) → ⊥) → ((s : ℕ) → OfNetSellers m s → Works m v s → ⊥) → r ≡ record { best = best.None; tried = 0; floor = 0 } → Says m v budget r
+  none : (Works m v (net_sellers m) → ⊥) → ((s : ℕ) → OfNetSellers m s → Works m v s → ⊥) → r ≡ record { best = None; tried = 0; floor = 0 } → Says m v budget r
   -- "Otherwise that whole set is the first best."
-  some : Works m v (net_sellers m) → (set : ℕ) → r.best ≡ best.Set set → Together m v budget set r.tried r.floor → Says m v budget r
+  some : Works m v (net_sellers m) → (set : ℕ) → r.best ≡ Some set → Together m v budget set r.tried r.floor → Says m v budget r
 
 module _ (m : Market) (v : Interval) (budget : ℕ) (accepted : pivotal_refusal m v ≡ 0) where
   taken_it : (interval_refusal m.resources v ≡ 0) × SomeBinds v
@@ -155,9 +154,9 @@ tried_in_budget m v budget = go (pivotal_refusal m v) (works_in m v (net_sellers
     go (suc k) t = zero-le
 
 -- "More budget never gives a best with more members": how many members a result has, 0 where there is none
-abbrev pub members_of : Best → ℕ
-members_of best.None = 0
-members_of (best.Set s) = ones s
+abbrev pub members_of : Option ℕ → ℕ
+members_of None = 0
+members_of (Some s) = ones s
 
 pub more_never_worse : (m : Market) (v : Interval) (budget more : ℕ) → budget ≤ more → members_of (pivotal_of m v more).best ≤ members_of (pivotal_of m v budget).best
 unfolding pivotal_of pivotal_in

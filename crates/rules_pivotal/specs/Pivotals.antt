@@ -1,5 +1,5 @@
 -- The fewest net sellers whose full withholding leaves every binding constraint of an interval short (paper 02, 2.11).
-use Rattle.std.specs.Prelude.{Bool, false, not, ◌||◌, cond, ℕ, zero, suc, max, ◌+◌, ltb, eqb}
+use Rattle.std.specs.Prelude.{Bool, false, not, ◌||◌, cond, ℕ, zero, suc, max, ◌+◌, ltb, eqb, None, Some}
 use Rattle.rules_number.specs.Over.{sum_to, all_to}
 use Rattle.rules_curve.specs.Refusals.{unless, ◌then◌}
 use Rattle.rules_interval.specs.Intervals.{interval_refusal}
@@ -9,7 +9,6 @@ use Rattle.rules_path.specs.Paths.{Path, at, binds, demand, supply, withholdable
 use Rattle.rules_path.specs.declared.Market.{Market}
 use Rattle.rules_mask.specs.Masks.{is_in, set_of}
 use Rattle.rules_pivotal.specs.Searches.{searched}
-use Rattle.rules_pivotal.specs.declared.Best.TheVariants as best
 use Rattle.rules_pivotal.specs.declared.Found.{Found}
 use Rattle.rules_pivotal.specs.declared.Pivotal.{Pivotal}
 
@@ -59,10 +58,10 @@ floor_of m v = most_to (λ c. need_of (path_in m v c)) v.constraints
 -- ---- the result
 -- "the result is none, with 0 sets tried and floor 0"
 abbrev pub none_found : Pivotal
-none_found = record { best = best.None; tried = 0; floor = 0 }
+none_found = record { best = None; tried = 0; floor = 0 }
 
 abbrev pub found_with : Found → ℕ → Pivotal
-found_with f floor = record { best = best.Set f.best; tried = f.tried; floor = floor }
+found_with f floor = record { best = Some f.best; tried = f.tried; floor = floor }
 
 -- "If all net sellers together can't, no set of them can, and the result is none [..] Otherwise that whole set is the first best."
 unfoldable pub pivotal_in : Market → Interval → ℕ → Pivotal

@@ -1,4 +1,5 @@
 -- The bound for the default price of every quantity (paper 02, 2.14). Assumes nothing.
+use Rattle.std.specs.Prelude.{None, Option, Some}
 use mathlib.Core.Bool.{Bool, true, false, cond}
 use mathlib.Core.List.{List, [], ◌∷◌}
 use mathlib.Core.Path.{◌≡◌, refl, sym, ap, subst, ◌∙◌}
@@ -14,8 +15,6 @@ use Rattle.rules_number.proofs.Kit.{lit, le_by, lt_by}
 use Rattle.rules_curve.specs.Curves.{blank_step, steps_of, quote, quote_from}
 use Rattle.rules_curve.specs.declared.Step.{Step}
 use Rattle.rules_curve.specs.declared.Curve.{Curve}
-use Rattle.rules_curve.specs.declared.Quote.{Quote}
-use Rattle.rules_curve.specs.declared.Quote.TheVariants.{Price, Outside}
 use Rattle.rules_cost.specs.Meaning.{step, edge_of, IsDefaultCurve}
 use Rattle.rules_cost.specs.Costs.{cost_curve, cost_refusal}
 use Rattle.rules_cost.specs.declared.Costs.{Costs}
@@ -33,18 +32,18 @@ record Found (l : List Step) (q : ℕ) (x : ℤ) : Type 0 where
   below : q < (get_or l at blank_step).end
   before : (i : ℕ) → i < at → (get_or l i blank_step).end ≤ q
 
-abbrev priced : Quote → ℤ
-priced (Price x) = x
-priced Outside = pos 0
+abbrev priced : Option ℤ → ℤ
+priced (Some x) = x
+priced None = pos 0
 
-abbrev IsPrice : Quote → Type 0
-IsPrice (Price x) = Unit {0}
-IsPrice Outside = ⊥
+abbrev IsPrice : Option ℤ → Type 0
+IsPrice (Some x) = Unit {0}
+IsPrice None = ⊥
 
-outside_none : {X : Type 0} {x : ℤ} → Outside ≡ Price x → X
+outside_none : {X : Type 0} {x : ℤ} → None ≡ Some x → X
 outside_none e = absurd (subst IsPrice (sym e) tt)
 
-found : (l : List Step) (q : ℕ) (x : ℤ) → quote_from l q ≡ Price x → Found l q x
+found : (l : List Step) (q : ℕ) (x : ℤ) → quote_from l q ≡ Some x → Found l q x
 unfolding quote_from
 found [] q x e = outside_none e
 found (s ∷ l) q x e = go (ltb q s.end) refl e (found l q x)
@@ -53,7 +52,7 @@ found (s ∷ l) q x e = go (ltb q s.end) refl e (found l q x)
     earlier n first h zero m = first
     earlier n first h (suc k) m = h k (omega arith)
 
-    go : (t : Bool) → ltb q s.end ≡ t → cond t (Price s.price) (quote_from l q) ≡ Price x → (quote_from l q ≡ Price x → Found l q x) → Found (s ∷ l) q x
+    go : (t : Bool) → ltb q s.end ≡ t → cond t (Some s.price) (quote_from l q) ≡ Some x → (quote_from l q ≡ Some x → Found l q x) → Found (s ∷ l) q x
     go true i e ih = record { at = 0; among = omega arith; its = ap priced e; below = ltb-true q s.end i; before = λ k h. absurd (omega arith) }
     go false i e ih =
         let f = ih e in
@@ -68,7 +67,7 @@ pub record Bounded (c : Costs) (k : Curve) (segment : ℕ → ℕ) (q : ℕ) (x 
   pub price : x ≡ (step k at).price
   pub rounded : (exact : Ratio) → ExactRaised c (edge_of k) segment at exact → Rounded c x exact
 
-pub default_price_bounded : (c : Costs) → cost_refusal c ≡ 0 → (k : Curve) (d : IsDefaultCurve c k) (q : ℕ) (x : ℤ) → quote k.start (steps_of k) q ≡ Price x
+pub default_price_bounded : (c : Costs) → cost_refusal c ≡ 0 → (k : Curve) (d : IsDefaultCurve c k) (q : ℕ) (x : ℤ) → quote k.start (steps_of k) q ≡ Some x
     → Bounded c k d.segment q x
 default_price_bounded c accepted k d q x e = go (ltb q k.start) refl e
   where
@@ -92,7 +91,7 @@ default_price_bounded c accepted k d q x e = go (ltb q k.start) refl e
           rounded = λ exact amounts. rw price (rounding_bounded c accepted k d f.at l exact amounts);
         }
 
-    go : (t : Bool) → ltb q k.start ≡ t → cond t Outside (quote_from (steps_of k) q) ≡ Price x → Bounded c k d.segment q x
+    go : (t : Bool) → ltb q k.start ≡ t → cond t None (quote_from (steps_of k) q) ≡ Some x → Bounded c k d.segment q x
     go true i e = outside_none e
     go false i e = inside (ltb-false q k.start i) (found (steps_of k) q x e)
 

@@ -1,8 +1,8 @@
 -- Reading a part uses up lines one by one: the number of the last line read and the lines after it add up to what there was. Assumes nothing.
+use Rattle.std.specs.Prelude.{None, Option, Some}
 use Prim.Native.Nat.{ℕ, zero, suc, ◌+◌, ◌≤◌}
 use Prim.Native.String.{String}
 use mathlib.Core.List.{List, [], ◌∷◌}
-use mathlib.Core.Option.{Option, none, some}
 use mathlib.Core.Bool.{Bool, true, false, cond}
 use mathlib.Core.Path.{◌≡◌, refl, ◌∙◌}
 use native.Mathlib.Omega.{arith}
@@ -30,8 +30,8 @@ module _ {A : Type 0} where
   due_using is n (l ∷ ls) = go (is l)
     where
       go : (o : Option A) → Uses n (l ∷ ls) (taken o n ls)
-      go none = omega arith
-      go (some a) = omega arith
+      go None = omega arith
+      go (Some a) = omega arith
 
   headed_using : (names : String) (values : Reader A) → Using values → Using (headed names values)
   unfolding headed
@@ -64,8 +64,8 @@ run_few k suits after i [] = omega arith
 run_few k suits after i (l ∷ ls) = go (if_suits (suits i) (row k l)) (λ j. run_few k suits after j ls)
   where
     go : (o : Option Row) → ((j : ℕ) → length (run k suits after j ls) ≤ length ls) → length (and_more o (λ x. run k suits after (after i x) ls)) ≤ suc (length ls)
-    go none h = omega arith
-    go (some x) h = omega (arith, h (after i x))
+    go None h = omega arith
+    go (Some x) h = omega (arith, h (after i x))
 
 rows_using : (of : List Line → List Row) → ((ls : List Line) → length (of ls) ≤ length ls) → Using (rows of)
 unfolding rows

@@ -1,8 +1,8 @@
 -- What is printed ends with the two lines of a refusal exactly when the run ends with that refusal. Assumes nothing.
+use Rattle.std.specs.Prelude.{Some}
 use Prim.Native.Nat.{ℕ, zero, suc, ◌+◌, ◌/◌, ◌%◌, ◌^◌, ◌≤◌, ◌<◌}
 use mathlib.Core.Path.{◌≡◌, refl, sym, ap, ap₂, subst, ◌∙◌}
 use mathlib.Core.List.{List, [], ◌∷◌, ◌++◌, append_assoc, append-nil, map}
-use mathlib.Core.Option.{some}
 use mathlib.Core.Bool.{true, cond}
 use mathlib.Core.Logic.{⊎_elim, ◌↔◌}
 use native.Mathlib.Omega.{arith}
@@ -212,9 +212,9 @@ wide_after x t w = record {
 -- the values of two lines of two small values
 two_values : (a b c d : ℕ) → a < 10 ^ 12 → b < 10 ^ 12 → c < 10 ^ 12 → d < 10 ^ 12 → line_text (pos a ∷ pos b ∷ []) ≡ line_text (pos c ∷ pos d ∷ []) → (a ≡ c) × (b ≡ d)
 two_values a b c d ha hb hc hd e =
-    let x : row 2 (line_text (pos a ∷ pos b ∷ [])) ≡ some (pos a ∷ pos b ∷ []) = row_every 2 (pos a ∷ pos b ∷ []) refl (and_all ha (and_all hb no_more)) in
-    let y : row 2 (line_text (pos c ∷ pos d ∷ [])) ≡ some (pos c ∷ pos d ∷ []) = row_every 2 (pos c ∷ pos d ∷ []) refl (and_all hc (and_all hd no_more)) in
-    let z : some (pos a ∷ pos b ∷ []) ≡ some (pos c ∷ pos d ∷ []) = sym x ∙ ap (row 2) e ∙ y in
+    let x : row 2 (line_text (pos a ∷ pos b ∷ [])) ≡ Some (pos a ∷ pos b ∷ []) = row_every 2 (pos a ∷ pos b ∷ []) refl (and_all ha (and_all hb no_more)) in
+    let y : row 2 (line_text (pos c ∷ pos d ∷ [])) ≡ Some (pos c ∷ pos d ∷ []) = row_every 2 (pos c ∷ pos d ∷ []) refl (and_all hc (and_all hd no_more)) in
+    let z : Some (pos a ∷ pos b ∷ []) ≡ Some (pos c ∷ pos d ∷ []) = sym x ∙ ap (row 2) e ∙ y in
     ((cc), (cc))
 
 -- ---- the pages of calls

@@ -1,4 +1,5 @@
 -- Laws of specs/Run. Assumes nothing.
+use Rattle.std.specs.Prelude.{None, Option, Some}
 use Prim.Native.Nat.{ℕ, zero, suc, ◌+◌, ◌≤◌, ◌<◌}
 use mathlib.Core.Path.{◌≡◌, refl, sym, ap, subst, ◌∙◌}
 use mathlib.Core.List.{List, [], ◌∷◌, ◌++◌}
@@ -25,25 +26,23 @@ use Rattle.rules_run.specs.declared.Ran.{Ran}
 use Rattle.rules_run.specs.declared.Ran.TheVariants as ran
 use Rattle.rules_run.proofs.CountLaws.{Uses, opening_using}
 use Rattle.rules_run.proofs.EndLaws.{too_long_end, read_text_end}
-use Rattle.rules_text.specs.declared.Printed.{Printed}
-use Rattle.rules_text.specs.declared.Printed.TheVariants.{To, Full}
 use Rattle.rules_page.specs.Pages.{put_within, put_within_to}
 use Rattle.rules_text.proofs.PrintLaws.{line_few}
 
 -- a text that has room is put by a call that answers To
-module _ (room : ℕ) (out : List ℕ) (at : ℕ) (text last : List ℕ) (answer : Printed) (fits : at + room ≤ length out)
+module _ (room : ℕ) (out : List ℕ) (at : ℕ) (text last : List ℕ) (answer : Option ℕ) (fits : at + room ≤ length out)
     (e : last ≡ put_within room out at text) (f : answer ≡ put_within_to room out at text) where
-  put_both : (last ≡ sets out at text) × (answer ≡ To (at + length text))
+  put_both : (last ≡ sets out at text) × (answer ≡ Some (at + length text))
   unfolding put_within put_within_to
   put_both =
       let h = le-leb (at + room) (length out) fits in
-      (e ∙ ap (λ (b : Bool). cond b (sets out at text) out) h, f ∙ ap (λ (b : Bool). cond b (To (at + length text)) Full) h)
+      (e ∙ ap (λ (b : Bool). cond b (sets out at text) out) h, f ∙ ap (λ (b : Bool). cond b (Some (at + length text)) None) h)
 
-  pub put_to : (next : ℕ) → answer ≡ To next → (last ≡ sets out at text) × (next ≡ at + length text)
-  put_to next g = (put_both.0, let h : answer ≡ To (at + length text) = put_both.1 in cc)
+  pub put_to : (next : ℕ) → answer ≡ Some next → (last ≡ sets out at text) × (next ≡ at + length text)
+  put_to next g = (put_both.0, let h : answer ≡ Some (at + length text) = put_both.1 in cc)
 
-  pub put_full : {X : Type 0} → answer ≡ Full → X
-  put_full g = absurd (let h : answer ≡ To (at + length text) = put_both.1 in let z : ◌≡◌ {A = ℕ} 0 1 = cc in omega arith)
+  pub put_full : {X : Type 0} → answer ≡ None → X
+  put_full g = absurd (let h : answer ≡ Some (at + length text) = put_both.1 in let z : ◌≡◌ {A = ℕ} 0 1 = cc in omega arith)
 
 -- the lines of a refusal are short
 pub refusal_few : (number line : ℕ) → length (refusal_text number line) ≤ 64

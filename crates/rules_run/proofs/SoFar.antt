@@ -1,9 +1,9 @@
 -- A text so far: what an accepted text prints stands at the beginning of what any longer text prints, so that a caller can drive an hour by appending each
 -- interval's part to the text so far. Assumes nothing.
+use Rattle.std.specs.Prelude.{None, Option, Some}
 use Prim.Native.Nat.{ℕ, zero, suc, ◌+◌, ◌≤◌, ◌<◌}
 use Prim.Native.String.{String}
 use mathlib.Core.List.{List, [], ◌∷◌, ◌++◌, append_assoc}
-use mathlib.Core.Option.{Option, none, some}
 use mathlib.Core.Bool.{Bool, true, false, cond}
 use mathlib.Core.Path.{◌≡◌, refl, sym, ap, subst, ◌∙◌}
 use native.Mathlib.Omega.{arith}
@@ -64,8 +64,8 @@ module _ {A : Type 0} where
   due_ends is more n (l ∷ ls) = go (is l)
     where
       go : (o : Option A) → Stays more (taken o n ls) (taken o n (ls ++ more))
-      go none = tt
-      go (some a) = refl
+      go None = tt
+      go (Some a) = refl
 
   headed_ends : (names : String) (values : Reader A) → Ending values → Ending (headed names values)
   unfolding headed
@@ -133,8 +133,8 @@ module _ (k : ℕ) (suits : ℕ → Row → Bool) (after : ℕ → Row → ℕ) 
       go : (o : Option Row) → ((y : Row) → drop (length (run k suits after (after i y) ls)) ls ≡ l ∷ rest → run k suits after (after i y) (ls ++ more) ≡ run k suits after (after i y) ls)
           → drop (length (and_more o (λ y. run k suits after (after i y) ls))) (x ∷ ls) ≡ l ∷ rest
           → and_more o (λ y. run k suits after (after i y) (ls ++ more)) ≡ and_more o (λ y. run k suits after (after i y) ls)
-      go none h d = refl
-      go (some y) h d = ap (λ (t : List Row). y ∷ t) (h y d)
+      go None h d = refl
+      go (Some y) h d = ap (λ (t : List Row). y ∷ t) (h y d)
 
 drop_more : (c : ℕ) (ls : List Line) (l : Line) (rest more : List Line) → drop c ls ≡ l ∷ rest → drop c (ls ++ more) ≡ (l ∷ rest) ++ more
 drop_more zero ls l rest more e = ap (λ (t : List Line). t ++ more) e

@@ -1,9 +1,9 @@
 -- Paper 02, 2.5: "The classroom hours that leaned on the old value must write 100 and, where that stays within 65,536 bytes, print as before." Whatever a
 -- missing parameter means now, a text with 100 written prints what it printed while a missing one meant 100, and ends as it did. Assumes nothing.
+use Rattle.std.specs.Prelude.{None, Option, Some}
 use Prim.Native.Nat.{ℕ, zero, suc, ◌+◌}
 use Prim.Native.String.{String}
 use mathlib.Core.List.{List, [], ◌∷◌, ◌++◌}
-use mathlib.Core.Option.{Option, none, some}
 use mathlib.Core.Bool.{Bool, true, false, cond}
 use mathlib.Core.Path.{◌≡◌, refl, sym, ap, ◌∙◌}
 use native.Mathlib.Omega.{arith}
@@ -45,22 +45,22 @@ then_agree {A} {B} {m} {m'} {f} {f'} u w = record { on = λ n ls. ap (λ (r : Re
 
 module _ {A : Type 0} where
   -- the names of the parameter's table are no line that is due
-  due_on : (is : Line → Option A) → is (bytes "parameter\n") ≡ none → (n : ℕ) (ls : List Line) → due is n (with_hundreds false ls) ≡ rest_written (due is n ls)
+  due_on : (is : Line → Option A) → is (bytes "parameter\n") ≡ None → (n : ℕ) (ls : List Line) → due is n (with_hundreds false ls) ≡ rest_written (due is n ls)
   unfolding due
   due_on is h n [] = refl
   due_on is h n (l ∷ ls) = go (is_names l) refl
     where
       other : (o : Option A) → taken o n (with_hundreds false ls) ≡ rest_written (taken o n ls)
-      other none = refl
-      other (some a) = refl
+      other None = refl
+      other (Some a) = refl
 
       go : (d : Bool) → is_names l ≡ d → taken (is l) n (with_hundreds d ls) ≡ rest_written (taken (is l) n ls)
       go true e =
-          let z : is l ≡ none = ap is (sym (same_eq (bytes "parameter\n") l e)) ∙ h in
+          let z : is l ≡ None = ap is (sym (same_eq (bytes "parameter\n") l e)) ∙ h in
           ap (λ (o : Option A). taken o n (with_hundreds true ls)) z ∙ sym (ap (λ (o : Option A). rest_written (taken o n ls)) z)
       go false e = other (is l)
 
-  due_agree : (is : Line → Option A) → is (bytes "parameter\n") ≡ none → Agree (due is) (due is)
+  due_agree : (is : Line → Option A) → is (bytes "parameter\n") ≡ None → Agree (due is) (due is)
   due_agree is h = record { on = due_on is h }
 
   -- a table of other names
@@ -80,18 +80,18 @@ module _ {A : Type 0} where
   headed_agree {now} {formerly} names other u = record { on = headed_on names now formerly other u }
 
 -- no numbers stand in the names of the parameter's table
-names_no_row : (k : ℕ) → row k (bytes "parameter\n") ≡ none
+names_no_row : (k : ℕ) → row k (bytes "parameter\n") ≡ None
 unfolding row number magnitude
 names_no_row zero = refl
 names_no_row (suc k) = refl
 
-no_names : (k : ℕ) (suits : Row → Bool) (l : Line) (x : Row) → if_suits suits (row k l) ≡ some x → is_names l ≡ false
+no_names : (k : ℕ) (suits : Row → Bool) (l : Line) (x : Row) → if_suits suits (row k l) ≡ Some x → is_names l ≡ false
 no_names k suits l x e = go (is_names l) refl
   where
     go : (d : Bool) → is_names l ≡ d → d ≡ false
     go true q =
-        let z : row k l ≡ none = ap (row k) (sym (same_eq (bytes "parameter\n") l q)) ∙ names_no_row k in
-        let y : some x ≡ none = sym e ∙ ap (if_suits suits) z in absurd (let o : ◌≡◌ {A = ℕ} 0 1 = cc in omega arith)
+        let z : row k l ≡ None = ap (row k) (sym (same_eq (bytes "parameter\n") l q)) ∙ names_no_row k in
+        let y : Some x ≡ None = sym e ∙ ap (if_suits suits) z in absurd (let o : ◌≡◌ {A = ℕ} 0 1 = cc in omega arith)
     go false q = refl
 
 -- a run of rows ends before the names of the parameter's table
@@ -103,8 +103,8 @@ module _ (k : ℕ) (suits : ℕ → Row → Bool) (after : ℕ → Row → ℕ) 
     where
       go : (o : Option Row) → if_suits (suits i) (row k l) ≡ o → ((j : ℕ) → run k suits after j (with_hundreds false ls) ≡ run k suits after j ls)
           → and_more o (λ x. run k suits after (after i x) (with_hundreds (is_names l) ls)) ≡ and_more o (λ x. run k suits after (after i x) ls)
-      go none e ih = refl
-      go (some x) e ih = ap (λ (d : Bool). x ∷ run k suits after (after i x) (with_hundreds d ls)) (no_names k (suits i) l x e) ∙ ap (λ (t : List Row). x ∷ t) (ih (after i x))
+      go None e ih = refl
+      go (Some x) e ih = ap (λ (d : Bool). x ∷ run k suits after (after i x) (with_hundreds d ls)) (no_names k (suits i) l x e) ∙ ap (λ (t : List Row). x ∷ t) (ih (after i x))
 
   past_on : (i : ℕ) (ls : List Line) → drop (length (run k suits after i ls)) (with_hundreds false ls) ≡ with_hundreds false (drop (length (run k suits after i ls)) ls)
   unfolding run
@@ -115,8 +115,8 @@ module _ (k : ℕ) (suits : ℕ → Row → Bool) (after : ℕ → Row → ℕ) 
           → ((j : ℕ) → drop (length (run k suits after j ls)) (with_hundreds false ls) ≡ with_hundreds false (drop (length (run k suits after j ls)) ls))
           → drop (length (and_more o (λ x. run k suits after (after i x) ls))) (l ∷ with_hundreds (is_names l) ls)
           ≡ with_hundreds false (drop (length (and_more o (λ x. run k suits after (after i x) ls))) (l ∷ ls))
-      go none e ih = refl
-      go (some x) e ih = ap (λ (d : Bool). drop (length (run k suits after (after i x) ls)) (with_hundreds d ls)) (no_names k (suits i) l x e) ∙ ih (after i x)
+      go None e ih = refl
+      go (Some x) e ih = ap (λ (d : Bool). drop (length (run k suits after (after i x) ls)) (with_hundreds d ls)) (no_names k (suits i) l x e) ∙ ih (after i x)
 
   rows_agree : (i : ℕ) → Agree (rows (run k suits after i)) (rows (run k suits after i))
   unfolding rows
@@ -149,7 +149,7 @@ unfolding each
 each_agree k zero r = found_agree []
 each_agree k (suc m) r = then_agree (due_agree (λ l. if_suits (has_id r) (row k l)) (ap (if_suits (has_id r)) (names_no_row k))) λ x. then_agree (each_agree k m (suc r)) λ xs. found_agree (x ∷ xs)
 
-no_single : single (bytes "parameter\n") ≡ none
+no_single : single (bytes "parameter\n") ≡ None
 unfolding single row number magnitude
 no_single = refl
 
@@ -178,7 +178,7 @@ module _ {A B : Type 0} (of : Reading A → (A → ℕ → List Line → B) → 
 
 -- ---- whatever a missing parameter means, a written 100 is 100
 module _ (missing : ℤ) where
-  hundred_is : parameter_by missing (bytes "100\n") ≡ some (pos 100)
+  hundred_is : parameter_by missing (bytes "100\n") ≡ Some (pos 100)
   unfolding parameter_by single row number magnitude
   hundred_is = refl
 
@@ -189,12 +189,12 @@ module _ (missing : ℤ) where
   due_hundred n (l ∷ ls) = go (same (bytes "-\n") l) refl
     where
       go : (d : Bool) → same (bytes "-\n") l ≡ d
-          → taken (parameter_by missing (cond d (bytes "100\n") l)) n (with_hundreds (is_names l) ls) ≡ rest_written (taken (cond d (some (pos 100)) (single l)) n ls)
+          → taken (parameter_by missing (cond d (bytes "100\n") l)) n (with_hundreds (is_names l) ls) ≡ rest_written (taken (cond d (Some (pos 100)) (single l)) n ls)
       go true e =
           ap (λ (o : Option ℤ). taken o n (with_hundreds (is_names l) ls)) hundred_is
           ∙ ap (λ (d : Bool). found (pos 100) (suc n) (with_hundreds d ls)) (ap is_names (sym (same_eq (bytes "-\n") l e)))
       go false e =
-          ap (λ (d : Bool). taken (cond d (some missing) (single l)) n (with_hundreds (is_names l) ls)) e
+          ap (λ (d : Bool). taken (cond d (Some missing) (single l)) n (with_hundreds (is_names l) ls)) e
           ∙ due_on single no_single n (l ∷ ls)
 
   parameter_on : (n : ℕ) (ls : List Line) → headed "parameter\n" (due (parameter_by missing)) n (with_hundreds false ls) ≡ rest_written (headed "parameter\n" (due (parameter_by (pos 100))) n ls)

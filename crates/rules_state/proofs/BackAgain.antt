@@ -1,4 +1,5 @@
 -- An hour that is put into cells is read back from them. Assumes nothing but that the cells can hold it.
+use Rattle.std.specs.Prelude.{None, Option, Some}
 use mathlib.Core.List.{List, [], ◌∷◌, ◌++◌, map, flat_map}
 use mathlib.Core.Path.{◌≡◌, refl, sym, ap, ap₂, ◌∙◌}
 use Prim.Native.Nat.{ℕ, ◌+◌, ◌<◌}
@@ -11,8 +12,6 @@ use Rattle.rules_number.proofs.ListedLaws.{listed_is}
 use Rattle.rules_curve.specs.Curves.{most_steps, step_to, blank_step}
 use Rattle.rules_curve.specs.declared.Step.{Step}
 use Rattle.rules_curve.specs.declared.Curve.{Curve}
-use Rattle.rules_mitigation.specs.declared.FloorPrice.{FloorPrice}
-use Rattle.rules_mitigation.specs.declared.FloorPrice.TheVariants.{Uncut, Cut}
 use Rattle.rules_path.specs.declared.Market.{Market}
 use Rattle.rules_opening.specs.Resources.{blank_row}
 use Rattle.rules_opening.specs.declared.Row.{Row}
@@ -35,9 +34,9 @@ whole_back n h = same_quantity n h
 floor_back : (x : Floor) → Unit {0} → floor_of (mark_of x.price) (price_of x.price) ≡ x
 floor_back x u = go x.price
   where
-    go : (p : FloorPrice) → floor_of (mark_of p) (price_of p) ≡ record { price = p }
-    go Uncut = refl
-    go (Cut l) = refl
+    go : (p : Option ℤ) → floor_of (mark_of p) (price_of p) ≡ record { price = p }
+    go None = refl
+    go (Some l) = refl
 
 each_any : {A : Type 0} (l : List A) → Each (λ x. Unit {0}) l
 each_any [] = tt

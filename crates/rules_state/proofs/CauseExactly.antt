@@ -1,5 +1,6 @@
 -- Why, in demand 3's words: a resource's mark is 1 exactly when it is dispatched and its component is above 0; the component, the competitive price and the floor price are
 -- those that its cap is made of. Assumes nothing.
+use Rattle.std.specs.Prelude.{None, Option, Some}
 use mathlib.Core.Bool.{Bool, true, false, cond, ◌&&◌}
 use mathlib.Core.List.{List, flat_map}
 use mathlib.Core.Logic.{◌⊎◌, inl, inr, ⊎_elim, ◌↔◌}
@@ -14,8 +15,6 @@ use lib.Signed.{lt_z, ◌<ℤ◌, ◌≤ℤ◌}
 use Rattle.rules_number.specs.Over.{listed}
 use Rattle.rules_number.proofs.OverLaws.{both, tested, listed_at, listed_length}
 use Rattle.rules_number.proofs.TestLaws.{above_exactly, not_above_exactly}
-use Rattle.rules_mitigation.specs.declared.FloorPrice.{FloorPrice}
-use Rattle.rules_mitigation.specs.declared.FloorPrice.TheVariants.{Uncut, Cut}
 use Rattle.rules_interval.specs.Intervals.{lmp_at, dispatch_at, interval_refusal}
 use Rattle.rules_interval.specs.declared.Interval.{Interval}
 use Rattle.rules_path.specs.declared.Market.{Market}
@@ -54,7 +53,7 @@ module _ (o : Opening) (accepted : opening_refusal o ≡ 0) (v : Interval) (soun
   abbrev price : ℤ
   price = competitive_price (lmp_at v r) C
 
-  abbrev cut : FloorPrice
+  abbrev cut : Option ℤ
   cut = cut_of (market_of o) v r
 
   cutting : ((pos 0 <ℤ dispatch_at v r) × (pos 0 <ℤ C)) ⊎ ((dispatch_at v r ≤ℤ pos 0) ⊎ (C ≤ℤ pos 0))
@@ -66,10 +65,10 @@ module _ (o : Opening) (accepted : opening_refusal o ≡ 0) (v : Interval) (soun
       go (inl e) (inr f) = inr (inr ((not_above_exactly C).0 f))
       go (inr e) f = inr (inl ((not_above_exactly (dispatch_at v r)).0 e))
 
-  cut_is : (pos 0 <ℤ dispatch_at v r) × (pos 0 <ℤ C) → cut ≡ Cut (price +ℤ v.parameter)
+  cut_is : (pos 0 <ℤ dispatch_at v r) × (pos 0 <ℤ C) → cut ≡ Some (price +ℤ v.parameter)
   cut_is h = cut_exactly o accepted v sound r C (component_is o accepted v sound r) h.0 h.1 price (price_is (lmp_at v r) C)
 
-  uncut_is : (dispatch_at v r ≤ℤ pos 0) ⊎ (C ≤ℤ pos 0) → cut ≡ Uncut
+  uncut_is : (dispatch_at v r ≤ℤ pos 0) ⊎ (C ≤ℤ pos 0) → cut ≡ None
   uncut_is h = uncut_exactly o accepted v sound r C (component_is o accepted v sound r) h
 
   -- the numbers of resource r

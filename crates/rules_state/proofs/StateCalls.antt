@@ -1,5 +1,6 @@
 -- The calls on a state: opening, an interval, a pass. Each makes of the hour that the state stands for what the engine's rules make of it; where the answer isn't 0 the
 -- state is as it was, to the cell. Assumes nothing.
+use Rattle.std.specs.Prelude.{None}
 use mathlib.Core.Bool.{true, false, ◌&&◌}
 use mathlib.Core.List.{List}
 use mathlib.Core.Logic.{◌⊎◌, ⊎_elim}
@@ -11,7 +12,6 @@ use lib.IntN.{ℤ, pos, negsuc}
 use lib.ListN.{length}
 use lib.Seq.{sets, length-sets}
 use Rattle.rules_text.proofs.ListLaws.{and-false, sets_before}
-use Rattle.rules_mitigation.specs.declared.FloorPrice.TheVariants.{Uncut}
 use Rattle.rules_interval.specs.declared.Interval.{Interval}
 use Rattle.rules_opening.specs.Openings.{opening_refusal}
 use Rattle.rules_opening.specs.declared.Opening.{Opening}
@@ -160,13 +160,13 @@ module _ (s verdicts : List ℤ) (v : Interval) where
       either_way (λ l. cell_at l k ≡ cell_at s k) (pass_answer s verdicts v) (pass_written s v) s refl (λ e. quarter_outside s v (pass_zero e) k h)
 
   -- of the standing an interval touches the count, and mark and price of each resource that it cuts; a pass the same of the quarter hour
-  pub interval_keeps : (r : ℕ) → r < most_resources → cut_of (market_in s) v r ≡ Uncut → (k : ℕ) → (k ≡ 1 + r) ⊎ (k ≡ 65 + r) → cell_at (state_after_interval s verdicts v) k ≡ cell_at s k
+  pub interval_keeps : (r : ℕ) → r < most_resources → cut_of (market_in s) v r ≡ None → (k : ℕ) → (k ≡ 1 + r) ⊎ (k ≡ 65 + r) → cell_at (state_after_interval s verdicts v) k ≡ cell_at s k
   unfolding state_after_interval
   interval_keeps r m u k o =
       either_way (λ l. cell_at l k ≡ cell_at s k) (interval_answer s verdicts v) (interval_written s v) s refl
       (λ e. sets_before (pos 0) (standing_written s v) quarter_from (quarter_cells fresh_quarter) k (⊎_elim (λ y. omega arith) (λ y. omega arith) o) ∙ standing_kept s v (interval_zero e) r m u k o)
 
-  pub pass_keeps : (r : ℕ) → r < most_resources → cut_of (market_in s) v r ≡ Uncut → (k : ℕ) → (k ≡ 130 + r) ⊎ (k ≡ 194 + r) → cell_at (state_after_pass s verdicts v) k ≡ cell_at s k
+  pub pass_keeps : (r : ℕ) → r < most_resources → cut_of (market_in s) v r ≡ None → (k : ℕ) → (k ≡ 130 + r) ⊎ (k ≡ 194 + r) → cell_at (state_after_pass s verdicts v) k ≡ cell_at s k
   unfolding state_after_pass
   pass_keeps r m u k o = either_way (λ l. cell_at l k ≡ cell_at s k) (pass_answer s verdicts v) (pass_written s v) s refl (λ e. quarter_kept s v (pass_zero e) r m u k o)
 

@@ -1,4 +1,5 @@
 -- Where each number of an hour stands in its state, cell by cell. Every content has a meaning: no cell is asked anything. Assumes nothing.
+use Rattle.std.specs.Prelude.{None, Some}
 use mathlib.Core.List.{List}
 use mathlib.Core.Path.{◌≡◌, refl, ap, ◌∙◌}
 use Prim.Native.Nat.{ℕ, zero, suc, ◌+◌, ◌*◌, ◌<◌, min}
@@ -13,7 +14,6 @@ use Rattle.rules_number.proofs.ListedLaws.{listed_is}
 use Rattle.rules_curve.specs.Curves.{most_steps, step_to, blank_step, steps_of}
 use Rattle.rules_curve.specs.declared.Curve.{Curve}
 use Rattle.rules_curve.specs.declared.Step.{Step}
-use Rattle.rules_mitigation.specs.declared.FloorPrice.TheVariants.{Uncut, Cut}
 use Rattle.rules_hour.specs.Hours.{uncut, no_row, row_at, floor_in}
 use Rattle.rules_hour.specs.declared.Floor.{Floor}
 use Rattle.rules_pass.specs.Passes.{pass_floor_in}
@@ -25,7 +25,7 @@ use Rattle.rules_state.specs.States.{floor_of, floors_in, standing_in, quarter_i
 pub floor_uncut : (mark price : ℤ) → mark ≡ pos 0 → floor_of mark price ≡ uncut
 floor_uncut mark price e = ap (λ (m : ℤ). floor_of m price) e
 
-pub floor_cut : (mark price : ℤ) → (mark ≡ pos 0 → ⊥) → floor_of mark price ≡ record { price = Cut price }
+pub floor_cut : (mark price : ℤ) → (mark ≡ pos 0 → ⊥) → floor_of mark price ≡ record { price = Some price }
 floor_cut (pos zero) price h = absurd (h refl)
 floor_cut (pos (suc n)) price h = refl
 floor_cut (negsuc n) price h = refl
@@ -45,12 +45,12 @@ pub record CurveCells (l : List ℤ) (i : ℕ) (c : Curve) : Type 0 where
 pub record Cells (l : List ℤ) : Type 0 where
   -- the standing
   pub accepted : (hour_in l).hour.standing.accepted ≡ nat_of (cell_at l 0)
-  pub uncut_mark : (r : ℕ) → r < 64 → cell_at l (1 + r) ≡ pos 0 → (floor_in (hour_in l).hour r).price ≡ Uncut
-  pub cut_mark : (r : ℕ) → r < 64 → (cell_at l (1 + r) ≡ pos 0 → ⊥) → (floor_in (hour_in l).hour r).price ≡ Cut (cell_at l (65 + r))
+  pub uncut_mark : (r : ℕ) → r < 64 → cell_at l (1 + r) ≡ pos 0 → (floor_in (hour_in l).hour r).price ≡ None
+  pub cut_mark : (r : ℕ) → r < 64 → (cell_at l (1 + r) ≡ pos 0 → ⊥) → (floor_in (hour_in l).hour r).price ≡ Some (cell_at l (65 + r))
   -- the quarter hour
   pub passes : (hour_in l).quarter.passes ≡ nat_of (cell_at l 129)
-  pub pass_uncut : (r : ℕ) → r < 64 → cell_at l (130 + r) ≡ pos 0 → (pass_floor_in (hour_in l) r).price ≡ Uncut
-  pub pass_cut : (r : ℕ) → r < 64 → (cell_at l (130 + r) ≡ pos 0 → ⊥) → (pass_floor_in (hour_in l) r).price ≡ Cut (cell_at l (194 + r))
+  pub pass_uncut : (r : ℕ) → r < 64 → cell_at l (130 + r) ≡ pos 0 → (pass_floor_in (hour_in l) r).price ≡ None
+  pub pass_cut : (r : ℕ) → r < 64 → (cell_at l (130 + r) ≡ pos 0 → ⊥) → (pass_floor_in (hour_in l) r).price ≡ Some (cell_at l (194 + r))
   -- the market
   pub resources : (hour_in l).hour.market.resources ≡ nat_of (cell_at l 258)
   pub portfolio : (r : ℕ) → r < 64 → get_or (hour_in l).hour.market.portfolio r 0 ≡ nat_of (cell_at l (259 + r))

@@ -1,4 +1,5 @@
 -- What an accepted interval, and an accepted pass, write to the cells of an hour makes of it the hour after them, and nothing else of it changes. Assumes nothing.
+use Rattle.std.specs.Prelude.{None, Option, Some}
 use mathlib.Core.List.{List}
 use mathlib.Core.Logic.{◌⊎◌, inl, inr, ⊎_elim}
 use mathlib.Core.Path.{◌≡◌, refl, sym, ap, ap₂, ◌∙◌}
@@ -16,8 +17,6 @@ use Rattle.rules_number.proofs.ListedLaws.{listed_is}
 use Rattle.rules_number.proofs.OverLaws.{both, listed_at, listed_length, up_to_at, up_to_step}
 use Rattle.rules_curve.proofs.CheckLaws.{then_both, unless_holds}
 use Rattle.rules_mitigation.specs.Mitigation.{lowered}
-use Rattle.rules_mitigation.specs.declared.FloorPrice.{FloorPrice}
-use Rattle.rules_mitigation.specs.declared.FloorPrice.TheVariants.{Uncut, Cut}
 use Rattle.rules_interval.specs.Intervals.{interval_refusal}
 use Rattle.rules_interval.specs.declared.Interval.{Interval}
 use Rattle.rules_interval.proofs.IntervalLaws.{in_limits}
@@ -45,51 +44,51 @@ accepted_length zero l i a = length-sets l i a
 accepted_length (suc n) l i a = refl
 
 -- ---- one cut: mark and price of its resource, and no other cell
-pub cut_length : (from r : ℕ) (cut : FloorPrice) (l : List ℤ) → length (cut_cell from r cut l) ≡ length l
+pub cut_length : (from r : ℕ) (cut : Option ℤ) (l : List ℤ) → length (cut_cell from r cut l) ≡ length l
 unfolding cut_cell
-cut_length from r Uncut l = refl
-cut_length from r (Cut x) l = length-set (set l (from + r) (pos 1)) (from + most_resources + r) _ ∙ length-set l (from + r) (pos 1)
+cut_length from r None l = refl
+cut_length from r (Some x) l = length-set (set l (from + r) (pos 1)) (from + most_resources + r) _ ∙ length-set l (from + r) (pos 1)
 
-cut_other : (from r : ℕ) (cut : FloorPrice) (l : List ℤ) (k : ℕ) → (k ≡ from + r → ⊥) → (k ≡ from + most_resources + r → ⊥) → cell_at (cut_cell from r cut l) k ≡ cell_at l k
+cut_other : (from r : ℕ) (cut : Option ℤ) (l : List ℤ) (k : ℕ) → (k ≡ from + r → ⊥) → (k ≡ from + most_resources + r → ⊥) → cell_at (cut_cell from r cut l) k ≡ cell_at l k
 unfolding cut_cell
-cut_other from r Uncut l k a b = refl
-cut_other from r (Cut x) l k a b = get_or-set_other (set l (from + r) (pos 1)) (from + most_resources + r) k _ (pos 0) b ∙ get_or-set_other l (from + r) k (pos 1) (pos 0) a
+cut_other from r None l k a b = refl
+cut_other from r (Some x) l k a b = get_or-set_other (set l (from + r) (pos 1)) (from + most_resources + r) k _ (pos 0) b ∙ get_or-set_other l (from + r) k (pos 1) (pos 0) a
 
-uncut_kept : (from r : ℕ) (l : List ℤ) (k : ℕ) → cell_at (cut_cell from r Uncut l) k ≡ cell_at l k
+uncut_kept : (from r : ℕ) (l : List ℤ) (k : ℕ) → cell_at (cut_cell from r None l) k ≡ cell_at l k
 unfolding cut_cell
 uncut_kept from r l k = refl
 
 -- a floor price in its two cells, after the cut x
-cut_floor_back : (k : Floor) (x : ℤ) → floor_of (pos 1) (price_of (lowered k.price (Cut x))) ≡ cut_floor (Cut x) k
+cut_floor_back : (k : Floor) (x : ℤ) → floor_of (pos 1) (price_of (lowered k.price (Some x))) ≡ cut_floor (Some x) k
 cut_floor_back k x = go k.price
   where
-    go : (f : FloorPrice) → floor_of (pos 1) (price_of (lowered f (Cut x))) ≡ record { price = lowered f (Cut x) }
-    go Uncut = refl
-    go (Cut y) = refl
+    go : (f : Option ℤ) → floor_of (pos 1) (price_of (lowered f (Some x))) ≡ record { price = lowered f (Some x) }
+    go None = refl
+    go (Some y) = refl
 
 -- the floor price of a resource in cells
 abbrev floor_at : List ℤ → ℕ → ℕ → Floor
 floor_at l from r = floor_of (cell_at l (from + r)) (cell_at l (from + most_resources + r))
 
-cut_here : (from r : ℕ) (cut : FloorPrice) (l : List ℤ) → r < most_resources → from + most_resources + most_resources ≤ length l → floor_at (cut_cell from r cut l) from r ≡ cut_floor cut (floor_at l from r)
+cut_here : (from r : ℕ) (cut : Option ℤ) (l : List ℤ) → r < most_resources → from + most_resources + most_resources ≤ length l → floor_at (cut_cell from r cut l) from r ≡ cut_floor cut (floor_at l from r)
 unfolding cut_cell
-cut_here from r Uncut l h long = refl
-cut_here from r (Cut x) l h long =
+cut_here from r None l h long = refl
+cut_here from r (Some x) l h long =
     let once = set l (from + r) (pos 1) in
-    let p = price_of (lowered (floor_from l from r) (Cut x)) in
+    let p = price_of (lowered (floor_from l from r) (Some x)) in
     let a : cell_at (set once (from + most_resources + r) p) (from + r) ≡ pos 1 =
     get_or-set_other once (from + most_resources + r) (from + r) p (pos 0) (λ e. omega arith) ∙ get_or-set_same l (from + r) (pos 1) (pos 0) (omega arith) in
     let b : cell_at (set once (from + most_resources + r) p) (from + most_resources + r) ≡ p =
     get_or-set_same once (from + most_resources + r) p (pos 0) (omega (arith, length-set l (from + r) (pos 1))) in
     rw (a, b) (cut_floor_back (floor_at l from r) x)
 
-cut_elsewhere : (from r : ℕ) (cut : FloorPrice) (l : List ℤ) (q : ℕ) → r < most_resources → q < most_resources → (q ≡ r → ⊥) → floor_at (cut_cell from r cut l) from q ≡ floor_at l from q
+cut_elsewhere : (from r : ℕ) (cut : Option ℤ) (l : List ℤ) (q : ℕ) → r < most_resources → q < most_resources → (q ≡ r → ⊥) → floor_at (cut_cell from r cut l) from q ≡ floor_at l from q
 cut_elsewhere from r cut l q h k n =
     ap₂ floor_of (cut_other from r cut l (from + q) (λ e. n (omega arith)) (λ e. absurd (omega arith)))
     (cut_other from r cut l (from + most_resources + q) (λ e. absurd (omega arith)) (λ e. n (omega arith)))
 
 -- of all floor prices it sets its own
-one_cut : (from r : ℕ) (cut : FloorPrice) (l : List ℤ) → r < most_resources → from + most_resources + most_resources ≤ length l
+one_cut : (from r : ℕ) (cut : Option ℤ) (l : List ℤ) → r < most_resources → from + most_resources + most_resources ≤ length l
     → set (floors_in l from) r (cut_floor cut (get_or (floors_in l from) r uncut)) ≡ floors_in (cut_cell from r cut l) from
 unfolding floors_in
 one_cut from r cut l h long =
@@ -110,7 +109,7 @@ one_cut from r cut l h long =
     go q m (no e) = get_or-set_other floors r q new uncut e ∙ listed_at (floor_at l from) uncut most_resources q m ∙ sym (cut_elsewhere from r cut l q h m e)
 
 -- ---- the cuts of n resources
-module _ (f : ℕ → FloorPrice) (from : ℕ) where
+module _ (f : ℕ → Option ℤ) (from : ℕ) where
   pub cuts_length : (n : ℕ) (l : List ℤ) → length (cuts_by f from n l) ≡ length l
   unfolding cuts_by
   cuts_length zero l = refl
@@ -125,14 +124,14 @@ module _ (f : ℕ → FloorPrice) (from : ℕ) where
       ∙ cuts_outside n l (omega arith) k o
 
   -- and mark and price of a resource without a cut are too
-  pub cuts_kept : (n : ℕ) (l : List ℤ) → n ≤ most_resources → (r : ℕ) → r < most_resources → f r ≡ Uncut
+  pub cuts_kept : (n : ℕ) (l : List ℤ) → n ≤ most_resources → (r : ℕ) → r < most_resources → f r ≡ None
       → (k : ℕ) → (k ≡ from + r) ⊎ (k ≡ from + most_resources + r) → cell_at (cuts_by f from n l) k ≡ cell_at l k
   unfolding cuts_by
   cuts_kept zero l h r m u k o = refl
   cuts_kept (suc n) l h r m u k o = go (ℕ_discrete n r) ∙ cuts_kept n l (omega arith) r m u k o
     where
       go : Dec (n ≡ r) → cell_at (cut_cell from n (f n) (cuts_by f from n l)) k ≡ cell_at (cuts_by f from n l) k
-      go (yes e) = ap (λ (x : FloorPrice). cell_at (cut_cell from n x (cuts_by f from n l)) k) (ap f e ∙ u) ∙ uncut_kept from n (cuts_by f from n l) k
+      go (yes e) = ap (λ (x : Option ℤ). cell_at (cut_cell from n x (cuts_by f from n l)) k) (ap f e ∙ u) ∙ uncut_kept from n (cuts_by f from n l) k
       go (no e) =
           cut_other from n (f n) (cuts_by f from n l) k (λ z. ⊎_elim (λ y. e (omega arith)) (λ y. omega arith) o) (λ z. ⊎_elim (λ y. omega arith) (λ y. e (omega arith)) o)
 
@@ -149,7 +148,7 @@ module _ (f : ℕ → FloorPrice) (from : ℕ) where
       ∙ rw (ih, up_to_at step uncut 0 n (floors_in l from)) (rw z at (up_to_step step uncut 0 n (floors_in l from) (omega (arith, floors_full l from))))
 
 -- ---- and the count: standing or quarter hour from cell b on
-module _ (f : ℕ → FloorPrice) (b n : ℕ) (few : n ≤ most_resources) (l : List ℤ) (count : ℤ) where
+module _ (f : ℕ → Option ℤ) (b n : ℕ) (few : n ≤ most_resources) (l : List ℤ) (count : ℤ) where
   abbrev cuts : List ℤ
   cuts = cuts_by f (b + 1) n l
 
@@ -165,7 +164,7 @@ module _ (f : ℕ → FloorPrice) (b n : ℕ) (few : n ≤ most_resources) (l : 
       ∙ cuts_outside f (b + 1) n l few k (⊎_elim (λ m. inl (omega arith)) (λ m. inr (omega arith)) o)
 
   -- of standing and quarter hour, the cells of a resource without a cut are as they were
-  pub counted_kept : (r : ℕ) → r < most_resources → f r ≡ Uncut → (k : ℕ) → (k ≡ b + 1 + r) ⊎ (k ≡ b + 1 + most_resources + r) → cell_at after k ≡ cell_at l k
+  pub counted_kept : (r : ℕ) → r < most_resources → f r ≡ None → (k : ℕ) → (k ≡ b + 1 + r) ⊎ (k ≡ b + 1 + most_resources + r) → cell_at after k ≡ cell_at l k
   counted_kept r m u k o =
       get_or-set_other cuts b k count (pos 0) (λ e. ⊎_elim (λ y. omega arith) (λ y. omega arith) o) ∙ cuts_kept f (b + 1) n l few r m u k o
 
@@ -198,7 +197,7 @@ module _ (l : List ℤ) (v : Interval) (sound : call_refusal (market_in l) (stan
   standing_past k h = counted_outside (cut_of (market_in l) v) 0 (market_in l).resources resources_few l (cell_of ((standing_in l).accepted + 1)) k (inr h)
 
   -- nor mark or price of a resource that the interval doesn't cut
-  pub standing_kept : (r : ℕ) → r < most_resources → cut_of (market_in l) v r ≡ Uncut → (k : ℕ) → (k ≡ 1 + r) ⊎ (k ≡ 65 + r) → cell_at (standing_written l v) k ≡ cell_at l k
+  pub standing_kept : (r : ℕ) → r < most_resources → cut_of (market_in l) v r ≡ None → (k : ℕ) → (k ≡ 1 + r) ⊎ (k ≡ 65 + r) → cell_at (standing_written l v) k ≡ cell_at l k
   unfolding standing_written
   standing_kept r m u k o = counted_kept (cut_of (market_in l) v) 0 (market_in l).resources resources_few l (cell_of ((standing_in l).accepted + 1)) r m u k o
 
@@ -245,7 +244,7 @@ module _ (l : List ℤ) (v : Interval) (sound : turn_refusal (market_in l) (stan
   quarter_outside k o = counted_outside (cut_of (market_in l) v) quarter_from (market_in l).resources few_resources l (cell_of ((quarter_in l).passes + 1)) k o
 
   -- nor mark or price of a resource that the pass doesn't cut
-  pub quarter_kept : (r : ℕ) → r < most_resources → cut_of (market_in l) v r ≡ Uncut → (k : ℕ) → (k ≡ 130 + r) ⊎ (k ≡ 194 + r) → cell_at (quarter_written l v) k ≡ cell_at l k
+  pub quarter_kept : (r : ℕ) → r < most_resources → cut_of (market_in l) v r ≡ None → (k : ℕ) → (k ≡ 130 + r) ⊎ (k ≡ 194 + r) → cell_at (quarter_written l v) k ≡ cell_at l k
   unfolding quarter_written
   quarter_kept r m u k o = counted_kept (cut_of (market_in l) v) quarter_from (market_in l).resources few_resources l (cell_of ((quarter_in l).passes + 1)) r m u k o
 

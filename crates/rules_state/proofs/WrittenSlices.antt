@@ -1,4 +1,5 @@
 -- What stands in the slices that calls write: the curves, the verdicts. Assumes nothing.
+use Rattle.std.specs.Prelude.{Option}
 use mathlib.Core.Bool.{true, false, ◌&&◌}
 use mathlib.Core.List.{List, ◌∷◌, map, flat_map}
 use mathlib.Core.Logic.{◌⊎◌, inl, inr, ⊎_elim}
@@ -20,7 +21,6 @@ use Rattle.rules_curve.specs.Curves.{most_steps, blank_step, steps_of, blank_cur
 use Rattle.rules_curve.specs.declared.Curve.{Curve}
 use Rattle.rules_curve.proofs.CheckLaws.{then_both}
 use Rattle.rules_mitigation.specs.Mitigation.{most_mitigated_steps, mitigated_steps, mitigated}
-use Rattle.rules_mitigation.specs.declared.FloorPrice.{FloorPrice}
 use Rattle.rules_mitigation.specs.declared.Mitigated.{Mitigated}
 use Rattle.rules_mitigation.proofs.MitigationLaws.{mitigated_length}
 use Rattle.rules_interval.specs.Intervals.{interval_refusal}
@@ -74,7 +74,7 @@ written {A} d n values before e h = record {
 abbrev Roomy : Mitigated → Type 0
 Roomy c = (length c.steps ≡ most_mitigated_steps) × (c.count ≤ most_mitigated_steps)
 
-room_of : (floor : FloorPrice) (x : Row) → length (steps_of x.default) ≤ most_steps → Roomy (mitigated floor x.bid x.default)
+room_of : (floor : Option ℤ) (x : Row) → length (steps_of x.default) ≤ most_steps → Roomy (mitigated floor x.bid x.default)
 unfolding mitigated
 room_of floor x few =
     let n = mitigated_length floor x.bid x.default few in

@@ -1,8 +1,8 @@
 -- The calls on a state: what each answers, and the lent slices afterwards.
-use Rattle.std.specs.Prelude.{Bool, cond, ◌&&◌, List, ℕ, leb, ltb, ℤ, pos, negsuc, length}
+use Rattle.std.specs.Prelude.{Bool, cond, ◌&&◌, List, ℕ, leb, ltb, ℤ, pos, negsuc, length, Result, Ok, Err}
 use Rattle.std.specs.Int.Count.{ones}
 use Rattle.std.proofs.lemmas.List.Edits.{sets}
-use Rattle.rules_curve.specs.Refusals.{outcome_number}
+use Rattle.rules_curve.specs.Refusals.{number_of}
 use Rattle.rules_interval.specs.Intervals.{interval_refusal}
 use Rattle.rules_interval.specs.declared.Interval.{Interval}
 use Rattle.rules_opening.specs.Openings.{opening_refusal}
@@ -10,8 +10,8 @@ use Rattle.rules_opening.specs.declared.Opening.{Opening}
 use Rattle.rules_hour.specs.Hours.{call_refusal, call_verdicts}
 use Rattle.rules_pass.specs.Passes.{fresh_quarter, turn_refusal, turn_verdicts, opened_real_time}
 use Rattle.rules_library.specs.Slices.{answer_of, if_written}
-use Rattle.rules_state.specs.declared.Called.{Called}
-use Rattle.rules_state.specs.declared.Called.TheVariants.{Done, TooShort}
+use Rattle.rules_state.specs.declared.CallError.{CallError}
+use Rattle.rules_state.specs.declared.CallError.TheVariants as why
 use Rattle.rules_state.specs.Layout.{most_constraints, quarter_from, state_room, verdict_room, cause_room}
 use Rattle.rules_state.specs.States.{standing_in, quarter_in, market_in, quarter_cells, state_cells}
 use Rattle.rules_state.specs.Takes.{standing_written, quarter_written}
@@ -24,10 +24,11 @@ use Rattle.rules_state.specs.Causes.{causes_cells}
 abbrev pub holds : {A : Type 0} → ℕ → List A → Bool
 holds n l = leb n (length l)
 
--- the same answer where a call has an enum for it
-abbrev pub called_number : Called → ℤ
-called_number (Done x) = pos (outcome_number x)
-called_number TooShort = negsuc 0
+-- the same answer where a call has a result for it
+abbrev pub called_number : {T : Type 0} → Result T CallError → ℤ
+called_number (Ok x) = pos 0
+called_number (Err (why.Refused r)) = pos (number_of r)
+called_number (Err why.TooShort) = negsuc 0
 
 -- ---- opening
 unfoldable pub open_answer : List ℤ → Opening → ℤ

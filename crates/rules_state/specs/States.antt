@@ -1,12 +1,10 @@
 -- An hour in cells: the hour that a list of numbers stands for, whatever it holds, and the numbers of an hour.
 use mathlib.Core.List.{List, ◌∷◌, ◌++◌, map, flat_map}
-use Rattle.std.specs.Prelude.{ℕ, zero, suc, ◌+◌, ◌*◌, ℤ, pos, negsuc}
+use Rattle.std.specs.Prelude.{ℕ, zero, suc, ◌+◌, ◌*◌, ℤ, pos, negsuc, None, Option, Some}
 use Rattle.rules_number.specs.Order.{nat_of}
 use Rattle.rules_number.specs.Over.{listed}
 use Rattle.rules_curve.specs.Curves.{most_steps, step_to}
 use Rattle.rules_curve.specs.declared.Curve.{Curve}
-use Rattle.rules_mitigation.specs.declared.FloorPrice.{FloorPrice}
-use Rattle.rules_mitigation.specs.declared.FloorPrice.TheVariants.{Uncut, Cut}
 use Rattle.rules_path.specs.declared.Market.{Market}
 use Rattle.rules_opening.specs.declared.Row.{Row}
 use Rattle.rules_hour.specs.declared.Floor.{Floor}
@@ -20,9 +18,9 @@ use Rattle.rules_state.specs.Layout.{most_resources, most_portfolios, quarter_fr
 -- ---- from cells: a cell past the end is 0, and a negative one is 0 where a number can't be negative
 -- a cut mark and a floor price: 0 is uncut, any other mark is cut
 abbrev pub floor_of : ℤ → ℤ → Floor
-floor_of (pos zero) price = record { price = Uncut }
-floor_of (pos (suc n)) price = record { price = Cut price }
-floor_of (negsuc n) price = record { price = Cut price }
+floor_of (pos zero) price = record { price = None }
+floor_of (pos (suc n)) price = record { price = Some price }
+floor_of (negsuc n) price = record { price = Some price }
 
 -- the marks from a cell on, and then the prices
 unfoldable pub floors_in : List ℤ → ℕ → List Floor
@@ -72,13 +70,13 @@ abbrev pub cell_of : ℕ → ℤ
 cell_of n = pos (printable n)
 
 -- the cut mark, and the floor price: 0 where there is none
-abbrev pub mark_of : FloorPrice → ℤ
-mark_of Uncut = pos 0
-mark_of (Cut l) = pos 1
+abbrev pub mark_of : Option ℤ → ℤ
+mark_of None = pos 0
+mark_of (Some l) = pos 1
 
-abbrev pub price_of : FloorPrice → ℤ
-price_of Uncut = pos 0
-price_of (Cut l) = l
+abbrev pub price_of : Option ℤ → ℤ
+price_of None = pos 0
+price_of (Some l) = l
 
 unfoldable pub floors_cells : List Floor → List ℤ
 floors_cells floors = map (λ x. mark_of x.price) floors ++ map (λ x. price_of x.price) floors

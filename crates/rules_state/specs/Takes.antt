@@ -1,10 +1,8 @@
 -- What an interval, or a pass, writes to the cells of an hour: the mark and the price of each resource that it cuts, the count, and no other cell.
 use mathlib.Core.List.{List, ◌++◌, flat_map}
-use Rattle.std.specs.Prelude.{ℕ, zero, suc, ◌+◌, ℤ, pos, set}
+use Rattle.std.specs.Prelude.{ℕ, zero, suc, ◌+◌, ℤ, pos, set, None, Option, Some}
 use Rattle.rules_number.specs.Over.{listed}
 use Rattle.rules_mitigation.specs.Mitigation.{lowered}
-use Rattle.rules_mitigation.specs.declared.FloorPrice.{FloorPrice}
-use Rattle.rules_mitigation.specs.declared.FloorPrice.TheVariants.{Uncut, Cut}
 use Rattle.rules_interval.specs.declared.Interval.{Interval}
 use Rattle.rules_path.specs.declared.Market.{Market}
 use Rattle.rules_opening.specs.Openings.{resource_at, market_of}
@@ -24,15 +22,15 @@ if_accepted (suc n) written l = l
 
 -- ---- cuts: marks begin at cell `from`, and prices after them
 -- the floor price of resource r
-abbrev pub floor_from : List ℤ → ℕ → ℕ → FloorPrice
+abbrev pub floor_from : List ℤ → ℕ → ℕ → Option ℤ
 floor_from l from r = (floor_of (cell_at l (from + r)) (cell_at l (from + most_resources + r))).price
 
-unfoldable pub cut_cell : ℕ → ℕ → FloorPrice → List ℤ → List ℤ
-cut_cell from r Uncut l = l
-cut_cell from r (Cut x) l = set (set l (from + r) (pos 1)) (from + most_resources + r) (price_of (lowered (floor_from l from r) (Cut x)))
+unfoldable pub cut_cell : ℕ → ℕ → Option ℤ → List ℤ → List ℤ
+cut_cell from r None l = l
+cut_cell from r (Some x) l = set (set l (from + r) (pos 1)) (from + most_resources + r) (price_of (lowered (floor_from l from r) (Some x)))
 
 -- the cut of each of the first n resources, that of resource r by cut r
-unfoldable pub cuts_by : (ℕ → FloorPrice) → ℕ → ℕ → List ℤ → List ℤ
+unfoldable pub cuts_by : (ℕ → Option ℤ) → ℕ → ℕ → List ℤ → List ℤ
 cuts_by cut from zero l = l
 cuts_by cut from (suc r) l = cut_cell from r (cut r) (cuts_by cut from r l)
 

@@ -1,7 +1,7 @@
 // An hour in numbers: the state that a caller keeps in a lent slice of numbers, and what calls on it read, write and answer. No code.
 #![tactic(auto)]
 
-use rules_curve::{Curve, Outcome};
+use rules_curve::{Curve, Refusal};
 use rules_interval::Interval;
 use rules_path::Market;
 
@@ -36,9 +36,9 @@ pub const CAUSE_WIDTH: usize = 4;
 
 pub const CAUSE_ROOM: usize = Interval::MAX_RESOURCES * CAUSE_WIDTH;
 
-// What a call on lent cells answers: an outcome, or that there are fewer cells than the hour has, which leaves everything lent as it was.
-#[derive(Clone, Copy)]
-pub enum Called {
-    Done(Outcome),
+// Why a call on lent cells leaves everything lent as it was: a refusal, or fewer cells than the hour has.
+#[derive(Clone, Copy, Debug, PartialEq, Eq)]
+pub enum CallError {
+    Refused(Refusal),
     TooShort,
 }

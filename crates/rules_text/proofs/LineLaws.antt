@@ -1,4 +1,5 @@
 -- Laws of lines: the first line of a text and the lines after it, and the number that a line begins with. Assumes nothing.
+use Rattle.std.specs.Prelude.{Option, Some, None}
 use Prim.Native.Nat.{ℕ, suc, ◌+◌, ◌-◌, ◌*◌, ◌≤◌}
 use mathlib.Core.Path.{◌≡◌, refl, sym, ap, subst, ◌∙◌}
 use mathlib.Core.List.{List, [], ◌∷◌}
@@ -7,16 +8,14 @@ use mathlib.Core.Logic.{⊎_elim}
 use native.Mathlib.Omega.{arith}
 use borrow.Author.Tests.{leb-true, ne_eqb, eqb-true}
 use lib.Dec.{leb, eqb}
+use Rattle.std.proofs.lemmas.Option.{none-some}
 use lib.ListN.{length, drop, get_or, length-drop}
 use lib.Seq.{drop-drop}
 use lib.IntN.{ℤ, pos, neg_ℤ}
 use Rattle.rules_number.proofs.OverLaws.{both, le_or_lt}
-use Rattle.rules_text.specs.declared.Magnitude.{Magnitude}
-use Rattle.rules_text.specs.declared.Magnitude.TheVariants.{Spells, None}
-use Rattle.rules_text.specs.declared.Number.{Number}
-use Rattle.rules_text.specs.declared.Number.TheVariants.{Is, Not}
 use Rattle.rules_text.specs.Numbers.{Line, lines, joined, is_digit, digit_count, value, formed, magnitude, plain, negated, number}
 use Rattle.rules_text.specs.Offsets.{shifted, number_at, line_at}
+use Rattle.rules_text.proofs.ListLaws.{some_pair}
 use Rattle.rules_text.proofs.NumberLaws.{spelt, past_end}
 
 -- the first line of a text
@@ -107,8 +106,8 @@ drop_line [] = refl
 drop_line (b ∷ t) = drop_by b (digit_count t) t (is_digit b) refl (drop_line t)
 
 -- ---- and so is the number that it begins with
-spelled : ℕ → ℕ → ℕ → Magnitude
-spelled f k v = cond (formed f k) (Spells v k) None
+spelled : ℕ → ℕ → ℕ → Option (ℕ × ℕ)
+spelled f k v = cond (formed f k) (Some (v, k)) None
 
 mag_line : (t : List ℕ) → magnitude (line t) ≡ magnitude t
 unfolding spelled magnitude
@@ -131,57 +130,54 @@ number_line [] = refl
 number_line (b ∷ t) = number_by b t (eqb b 45) refl
 
 -- ---- past a number the line goes on
-plain_end : (k : ℕ) (z : ℤ) (m : Magnitude) (P : ℕ → Type 0) → ((v n : ℕ) → Spells v n ≡ m → P n) → plain m ≡ Is z k → P k
-plain_end k z None P h e = let q : ◌≡◌ {A = ℕ} 0 1 = cc in absurd (omega arith)
-plain_end k z (Spells v n) P h e = let q : n ≡ k = cc in subst P q (h v n refl)
+-- what holds past the digits holds past a number that they are, and past a negative one
+pub plain_end : (k : ℕ) (z : ℤ) (m : Option (ℕ × ℕ)) (P : ℕ → Type 0) → ((v n : ℕ) → Some (v, n) ≡ m → P n) → plain m ≡ Some (z, k) → P k
+plain_end k z None P h e = absurd (none-some (z, k) e)
+plain_end k z (Some (v, n)) P h e = let q : n ≡ k = (some_pair e).1 in subst P q (h v n refl)
 
-negated_by : (v n k : ℕ) (z : ℤ) (P : ℕ → Type 0) (d : Bool) → P (suc n) → cond d Not (Is (neg_ℤ (pos v)) (suc n)) ≡ Is z k → P k
-negated_by v n k z P true h e = let q : ◌≡◌ {A = ℕ} 0 1 = cc in absurd (omega arith)
-negated_by v n k z P false h e = let q : suc n ≡ k = cc in subst P q h
+negated_by : (v n k : ℕ) (z : ℤ) (P : ℕ → Type 0) (d : Bool) → P (suc n) → ◌≡◌ {A = Option (ℤ × ℕ)} (cond d None (Some (neg_ℤ (pos v), suc n))) (Some (z, k)) → P k
+negated_by v n k z P true h e = absurd (none-some (z, k) e)
+negated_by v n k z P false h e = let q : suc n ≡ k = (some_pair e).1 in subst P q h
 
-negated_end : (k : ℕ) (z : ℤ) (m : Magnitude) (P : ℕ → Type 0) → ((v n : ℕ) → Spells v n ≡ m → P (suc n)) → negated m ≡ Is z k → P k
-negated_end k z None P h e = let q : ◌≡◌ {A = ℕ} 0 1 = cc in absurd (omega arith)
-negated_end k z (Spells v n) P h e = negated_by v n k z P (eqb v 0) (h v n refl) e
+pub negated_end : (k : ℕ) (z : ℤ) (m : Option (ℕ × ℕ)) (P : ℕ → Type 0) → ((v n : ℕ) → Some (v, n) ≡ m → P (suc n)) → negated m ≡ Some (z, k) → P k
+negated_end k z None P h e = absurd (none-some (z, k) e)
+negated_end k z (Some (v, n)) P h e = negated_by v n k z P (eqb v 0) (h v n refl) e
 
 -- the k bytes of a number lie within the text's first line
 abbrev Within : List ℕ → ℕ → Type 0
 Within t k = drop k (line t) ≡ line (drop k t)
 
-digits_within : (t : List ℕ) (v n : ℕ) → Spells v n ≡ magnitude t → Within t n
+digits_within : (t : List ℕ) (v n : ℕ) → Some (v, n) ≡ magnitude t → Within t n
 digits_within t v n m = subst (Within t) (sym (spelt t v n m).count) (drop_line t)
 
 past_minus : (b n : ℕ) (t : List ℕ) → eqb b 10 ≡ false → Within t n → Within (b ∷ t) (suc n)
 past_minus b n t e w = ap (λ (x : Bool). drop n (cond x [] (line t))) e ∙ w
 
-within_by : (b : ℕ) (t : List ℕ) (k : ℕ) (z : ℤ) (d : Bool) → eqb b 45 ≡ d → cond d (negated (magnitude t)) (plain (magnitude (b ∷ t))) ≡ Is z k → Within (b ∷ t) k
+within_by : (b : ℕ) (t : List ℕ) (k : ℕ) (z : ℤ) (d : Bool) → eqb b 45 ≡ d → cond d (negated (magnitude t)) (plain (magnitude (b ∷ t))) ≡ Some (z, k) → Within (b ∷ t) k
 within_by b t k z true e q = negated_end k z (magnitude t) (Within (b ∷ t)) (λ v n m. past_minus b n t (minus_in b e) (digits_within t v n m)) q
 within_by b t k z false e q = plain_end k z (magnitude (b ∷ t)) (Within (b ∷ t)) (digits_within (b ∷ t)) q
 
-pub within : (t : List ℕ) (k : ℕ) (z : ℤ) → number t ≡ Is z k → drop k (line t) ≡ line (drop k t)
+pub within : (t : List ℕ) (k : ℕ) (z : ℤ) → number t ≡ Some (z, k) → drop k (line t) ≡ line (drop k t)
 unfolding number
 within [] k z q = plain_end k z (magnitude []) (Within []) (digits_within []) q
 within (b ∷ t) k z q = within_by b t k z (eqb b 45) refl q
 
 -- ---- and it ends where the text ends, or before
-few_by : (b : ℕ) (t : List ℕ) (k : ℕ) (z : ℤ) (d : Bool) → cond d (negated (magnitude t)) (plain (magnitude (b ∷ t))) ≡ Is z k → k ≤ length (b ∷ t)
+few_by : (b : ℕ) (t : List ℕ) (k : ℕ) (z : ℤ) (d : Bool) → cond d (negated (magnitude t)) (plain (magnitude (b ∷ t))) ≡ Some (z, k) → k ≤ length (b ∷ t)
 few_by b t k z true q = negated_end k z (magnitude t) (λ (j : ℕ). j ≤ length (b ∷ t)) (λ v n m. omega (arith, (spelt t v n m).fits)) q
 few_by b t k z false q = plain_end k z (magnitude (b ∷ t)) (λ (j : ℕ). j ≤ length (b ∷ t)) (λ v n m. (spelt (b ∷ t) v n m).fits) q
 
-few : (t : List ℕ) (k : ℕ) (z : ℤ) → number t ≡ Is z k → k ≤ length t
+few : (t : List ℕ) (k : ℕ) (z : ℤ) → number t ≡ Some (z, k) → k ≤ length t
 unfolding number
 few [] k z q = plain_end k z (magnitude []) (λ (j : ℕ). j ≤ 0) (λ v n m. (spelt [] v n m).fits) q
 few (b ∷ t) k z q = few_by b t k z (eqb b 45) q
 
-ends_by : (s : List ℕ) (p n : ℕ) (z : ℤ) (x : Number) → number (drop p s) ≡ x → Is z n ≡ shifted p x → p ≤ length s → n ≤ length s
-ends_by s p n z Not e q h = let c : ◌≡◌ {A = ℕ} 0 1 = cc in absurd (omega arith)
-ends_by s p n z (Is y k) e q h = let c : n ≡ p + k = cc in omega (arith, few (drop p s) k y e, length-drop p s)
+ends_by : (s : List ℕ) (p n : ℕ) (z : ℤ) (x : Option (ℤ × ℕ)) → number (drop p s) ≡ x → Some (z, n) ≡ shifted p x → p ≤ length s → n ≤ length s
+ends_by s p n z None e q h = absurd (none-some (z, n) (sym q))
+ends_by s p n z (Some (y, k)) e q h = let c : n ≡ p + k = (some_pair q).1 in omega (arith, few (drop p s) k y e, length-drop p s)
 
-pub number_ends : (s : List ℕ) (p n : ℕ) (z : ℤ) → Is z n ≡ number_at s p → n ≤ length s
+pub number_ends : (s : List ℕ) (p n : ℕ) (z : ℤ) → Some (z, n) ≡ number_at s p → n ≤ length s
 unfolding number_at
 number_ends s p n z q = ⊎_elim
-    (λ h. let c : ◌≡◌ {A = ℕ} 0 1 = subst (λ (x : Number). ◌≡◌ {A = ℕ} 0 (is_not x)) (past_end s p h ∙ sym q) refl in absurd (omega arith))
+    (λ h. absurd (none-some (z, n) (past_end s p h ∙ sym q)))
     (λ h. ends_by s p n z (number (drop p s)) refl q (omega arith)) (le_or_lt (length s) p)
-  where
-    is_not : Number → ℕ
-    is_not Not = 0
-    is_not (Is y k) = 1

@@ -1,5 +1,6 @@
 -- Laws of names lines: the wanted bytes compared one by one, and a table after its names. Assumes nothing.
-use Prim.Native.Nat.{ℕ, zero, suc, ◌+◌, ◌-◌, ◌≤◌, ◌<◌}
+use Rattle.std.specs.Prelude.{None, Some}
+use Prim.Native.Nat.{ℕ, ◌+◌, ◌-◌, ◌≤◌, ◌<◌}
 use Prim.Native.String.{String}
 use mathlib.Core.Path.{◌≡◌, refl, sym, ap, ◌∙◌}
 use mathlib.Core.List.{List, [], ◌∷◌}
@@ -8,13 +9,13 @@ use native.Mathlib.Omega.{arith}
 use native.Mathlib.Numerals.{add-one}
 use native.Mathlib.Nat.{add_assoc}
 use borrow.Author.Tests.{eq-eqb, ne_eqb, eqb-true}
+use Rattle.std.proofs.lemmas.Option.{none-some, same_Some}
 use lib.Dec.{eqb}
 use lib.ListN.{length, drop, take, get_or, drop_of_length-le, length-drop}
 use Rattle.rules_number.proofs.OverLaws.{never}
 use Rattle.rules_text.specs.Numbers.{Line, bytes, same, lines}
 use Rattle.rules_text.specs.Tables.{Reader, faulty, headed}
 use Rattle.rules_text.specs.Offsets.{names_at}
-use Rattle.rules_text.specs.declared.Found.TheVariants.{At, Nothing}
 use Rattle.rules_text.proofs.ListLaws.{at_cons}
 use Rattle.rules_text.proofs.LineLaws.{line, after, lines_cons, lines_after, next_lines}
 
@@ -40,26 +41,26 @@ starts_short (a ∷ w) [] h = refl
 starts_short (a ∷ w) (b ∷ t) h = short_by (eqb a b) (starts w t) (starts_short w t (omega arith))
 
 module _ (s : List ℕ) (at : ℕ) (w : List ℕ) where
-  pub names_by : (b : Bool) → starts w (drop at s) ≡ b → cond b (At (at + length w)) Nothing ≡ names_at s at w
+  pub names_by : (b : Bool) → starts w (drop at s) ≡ b → cond b (Some (at + length w)) None ≡ names_at s at w
   unfolding names_at
-  names_by b e = ap (λ (x : Bool). cond x (At (at + length w)) Nothing) (sym e ∙ starts_take w (drop at s))
+  names_by b e = ap (λ (x : Bool). cond x (Some (at + length w)) None) (sym e ∙ starts_take w (drop at s))
 
-  pub names_empty : length w ≡ 0 → At at ≡ names_at s at w
-  names_empty z = let n : at ≡ at + length w = omega arith in ap At n ∙ names_by true (none w z)
+  pub names_empty : length w ≡ 0 → Some at ≡ names_at s at w
+  names_empty z = let n : at ≡ at + length w = omega arith in ap Some n ∙ names_by true (none w z)
     where
       none : (w : List ℕ) → length w ≡ 0 → starts w (drop at s) ≡ true
       none [] z = refl
       none (a ∷ w) z = absurd (omega arith)
 
-  pub names_short : length s - at < length w → Nothing ≡ names_at s at w
+  pub names_short : length s - at < length w → None ≡ names_at s at w
   names_short h = let d = length-drop at s in names_by false (starts_short w (drop at s) (omega arith))
 
   -- ---- the loop: the first i bytes agree
   module _ (i : ℕ) (inv : starts (drop i w) (drop (at + i) s) ≡ starts w (drop at s)) where
-    pub names_all : length w ≤ i → i ≤ length w → At (at + i) ≡ names_at s at w
+    pub names_all : length w ≤ i → i ≤ length w → Some (at + i) ≡ names_at s at w
     names_all h k =
         let n : at + i ≡ at + length w = omega arith in
-        ap At n ∙ names_by true (sym inv ∙ ap (λ (l : List ℕ). starts l (drop (at + i) s)) (drop_of_length-le w h))
+        ap Some n ∙ names_by true (sym inv ∙ ap (λ (l : List ℕ). starts l (drop (at + i) s)) (drop_of_length-le w h))
 
     module _ (there : i < length w) (here : at + i < length s) where
       step_as : (b : Bool) → eqb (get_or w i 0) (get_or s (at + i) 0) ≡ b → starts (drop i w) (drop (at + i) s) ≡ cond b (starts (drop (i + 1) w) (drop (at + i + 1) s)) false
@@ -68,7 +69,7 @@ module _ (s : List ℕ) (at : ℕ) (w : List ℕ) where
           ∙ ap (starts (get_or w i 0 ∷ drop (i + 1) w)) (at_cons 0 s (at + i) here)
           ∙ ap (λ (x : Bool). cond x (starts (drop (i + 1) w) (drop (at + i + 1) s)) false) e
 
-      pub names_other : (get_or s (at + i) 0 ≡ get_or w i 0 → ⊥) → Nothing ≡ names_at s at w
+      pub names_other : (get_or s (at + i) 0 ≡ get_or w i 0 → ⊥) → None ≡ names_at s at w
       names_other h = names_by false (sym inv ∙ step_as false (ne_eqb (get_or w i 0) (get_or s (at + i) 0) (λ e. h (sym e))))
 
       pub names_more : get_or s (at + i) 0 ≡ get_or w i 0 → starts (drop (i + 1) w) (drop (at + (i + 1)) s) ≡ starts w (drop at s)
@@ -125,7 +126,7 @@ module _ {A : Type 0} (names : String) (values : Reader A) (n : ℕ) where
   headed_by (b ∷ t) d e h = rw (lines_cons b t, e, add-one) refl
 
   module _ (s : List ℕ) (at : ℕ) (w : is_line (bytes names) ≡ true) where
-    found_by : (b : Bool) → same (bytes names) (line (drop at s)) ≡ b → cond b (At (at + length (bytes names))) Nothing ≡ names_at s at (bytes names)
+    found_by : (b : Bool) → same (bytes names) (line (drop at s)) ≡ b → cond b (Some (at + length (bytes names))) None ≡ names_at s at (bytes names)
     found_by b e = names_by s at (bytes names) b (starts_line (bytes names) (drop at s) w ∙ e)
 
     at_end : (b : Bool) → same (bytes names) (line (drop at s)) ≡ b → drop at s ≡ [] → b ≡ false
@@ -136,21 +137,20 @@ module _ {A : Type 0} (names : String) (values : Reader A) (n : ℕ) where
         no_line (a ∷ l) h = refl
 
     -- another line, or none, stands in its place
-    pub not_headed : Nothing ≡ names_at s at (bytes names) → headed names values n (lines (drop at s)) ≡ faulty (n + 1)
+    pub not_headed : None ≡ names_at s at (bytes names) → headed names values n (lines (drop at s)) ≡ faulty (n + 1)
     not_headed e = go (same (bytes names) (line (drop at s))) refl
       where
         go : (b : Bool) → same (bytes names) (line (drop at s)) ≡ b → headed names values n (lines (drop at s)) ≡ faulty (n + 1)
-        go true q = let f = e ∙ sym (found_by true q) in let z : ◌≡◌ {A = ℕ} 0 1 = cc in absurd (omega arith)
+        go true q = absurd (none-some (at + length (bytes names)) (e ∙ sym (found_by true q)))
         go false q = headed_by (drop at s) false q (at_end false q)
 
     -- past the names, at q
-    pub past_names : (q : ℕ) → At q ≡ names_at s at (bytes names) → headed names values n (lines (drop at s)) ≡ values (n + 1) (lines (drop q s))
+    pub past_names : (q : ℕ) → Some q ≡ names_at s at (bytes names) → headed names values n (lines (drop at s)) ≡ values (n + 1) (lines (drop q s))
     past_names q e = go (same (bytes names) (line (drop at s))) refl
       where
         go : (b : Bool) → same (bytes names) (line (drop at s)) ≡ b → headed names values n (lines (drop at s)) ≡ values (n + 1) (lines (drop q s))
-        go false h = let f = e ∙ sym (found_by false h) in let z : ◌≡◌ {A = ℕ} 0 1 = cc in absurd (omega arith)
+        go false h = absurd (none-some q (found_by false h ∙ sym e))
         go true h =
-            let f = e ∙ sym (found_by true h) in
-            let m : q ≡ at + length (bytes names) = cc in
+            let m : q ≡ at + length (bytes names) = same_Some q (at + length (bytes names)) (e ∙ sym (found_by true h)) in
             let l : q ≡ at + length (line (drop at s)) = m ∙ ap (λ (x : Line). at + length x) (same_eq (bytes names) (line (drop at s)) h) in
             headed_by (drop at s) true h (at_end true h) ∙ ap (values (n + 1)) (lines_after (drop at s) ∙ sym (next_lines s at q l))

@@ -1,4 +1,5 @@
 -- Laws of specs/Numbers: the digits that a text begins with, read one by one, and the number that they are. Assumes nothing.
+use Rattle.std.specs.Prelude.{Some, None, Option}
 use Prim.Native.Nat.{ℕ, zero, suc, ◌+◌, ◌-◌, ◌*◌, ◌%◌, ◌^◌, ◌≤◌, ◌<◌}
 use mathlib.Core.Path.{◌≡◌, refl, sym, ap, ◌∙◌}
 use mathlib.Core.List.{List, [], ◌∷◌}
@@ -9,14 +10,12 @@ use native.Mathlib.Nat.{pow-suc, pow-le-pow_right, add-zero}
 use native.Mathlib.Numerals.{add-one}
 use borrow.Author.Tests.{lt-leb, le-leb, leb-true, eq-eqb, ne_eqb, eqb-true, eqb-false}
 use lib.Dec.{leb, eqb}
+use Rattle.std.proofs.lemmas.Option.{cond_some}
 use lib.ListN.{length, drop, take, get_or, drop_of_length-le, length-drop}
 use lib.Seq.{get_or-take, get_or-drop, length-take-le, drop-drop, take_all}
 use lib.IntN.{ℤ, pos, neg_ℤ}
 use Rattle.rules_number.proofs.OverLaws.{le_or_lt, both}
 use Rattle.rules_text.proofs.ListLaws.{and-false, at_cons, head_at}
-use Rattle.rules_text.specs.declared.Magnitude.{Magnitude}
-use Rattle.rules_text.specs.declared.Magnitude.TheVariants.{Spells, None}
-use Rattle.rules_text.specs.declared.Number.TheVariants.{Is, Not}
 use Rattle.rules_text.specs.Numbers.{is_digit, digit_count, value, formed, magnitude, plain, negated, number}
 use Rattle.rules_text.specs.Offsets.{shifted, number_at, closed_by}
 
@@ -164,13 +163,13 @@ formed_within f k e =
     let b = both (leb 1 k) (leb k 12) (both (leb 1 k && leb k 12) (eqb k 1 || not (eqb f 48)) e).0 in
     (leb-true 1 k b.0, leb-true k 12 b.1)
 
-pub mag_is : (t : List ℕ) → formed (get_or t 0 0) (digit_count t) ≡ true → magnitude t ≡ Spells (value 0 t) (digit_count t)
+pub mag_is : (t : List ℕ) → formed (get_or t 0 0) (digit_count t) ≡ true → magnitude t ≡ Some (value 0 t, digit_count t)
 unfolding magnitude
-mag_is t e = ap (λ (b : Bool). cond b (Spells (value 0 t) (digit_count t)) None) e
+mag_is t e = ap (λ (b : Bool). cond b (Some (value 0 t, digit_count t)) None) e
 
 mag_none : (t : List ℕ) → formed (get_or t 0 0) (digit_count t) ≡ false → magnitude t ≡ None
 unfolding magnitude
-mag_none t e = ap (λ (b : Bool). cond b (Spells (value 0 t) (digit_count t)) None) e
+mag_none t e = ap (λ (b : Bool). cond b (Some (value 0 t, digit_count t)) None) e
 
 -- a digit stands in the text
 pub digit_there : (s : List ℕ) (at k : ℕ) → k ≡ digit_count (take 13 (drop at s)) → 1 < k → at < length s
@@ -192,11 +191,11 @@ module _ (s : List ℕ) (at v k : ℕ) (spelled : v ≡ value 0 (take 13 (drop a
     same : (k ≡ digit_count (drop at s)) × (v ≡ value 0 (drop at s))
     same = let q = take_few 13 0 (drop at s) (omega arith) in (count ∙ q.0, spelled ∙ q.1)
 
-    by : formed (get_or (drop at s) 0 0) (digit_count (drop at s)) ≡ true → Spells v k ≡ magnitude (drop at s)
-    by e = ap (λ (x : ℕ). Spells x k) same.1 ∙ ap (Spells (value 0 (drop at s))) same.0 ∙ sym (mag_is (drop at s) e)
+    by : formed (get_or (drop at s) 0 0) (digit_count (drop at s)) ≡ true → Some (v, k) ≡ magnitude (drop at s)
+    by e = ap (λ (x : ℕ). Some (x, k)) same.1 ∙ ap (λ (j : ℕ). Some (value 0 (drop at s), j)) same.0 ∙ sym (mag_is (drop at s) e)
 
   -- the number that they are, if any
-  pub mag_by : (f : Bool) → formed (get_or s at 0) k ≡ f → magnitude (drop at s) ≡ cond f (Spells v k) None
+  pub mag_by : (f : Bool) → formed (get_or s at 0) k ≡ f → magnitude (drop at s) ≡ cond f (Some (v, k)) None
   mag_by true e =
       let w = formed_within (get_or s at 0) k e in
       sym (by w.0 w.1 (ap (λ (x : ℕ). formed x (digit_count (drop at s))) (sym (head_at 0 s at)) ∙ ap (formed (get_or s at 0)) (sym (same w.0 w.1).0) ∙ e))
@@ -228,19 +227,22 @@ pub record Spelt (t : List ℕ) (v k : ℕ) : Type 0 where
   pub small : v < 10 ^ 12
   pub fits : k ≤ length t
 
-spelt_by : (t : List ℕ) (v k : ℕ) (b : Bool) → formed (get_or t 0 0) (digit_count t) ≡ b → Spells v k ≡ cond b (Spells (value 0 t) (digit_count t)) None → Spelt t v k
-spelt_by t v k true e m =
-    let same : v ≡ value 0 t = cc in
-    let count : k ≡ digit_count t = cc in
-    let w = formed_within (get_or t 0 0) (digit_count t) e in
+-- a text that begins with a number is formed, and these are its parts
+pub mag_parts : (t : List ℕ) (v k : ℕ) → Some (v, k) ≡ magnitude t → (formed (get_or t 0 0) (digit_count t) ≡ true) × (value 0 t ≡ v) × (digit_count t ≡ k)
+unfolding magnitude
+mag_parts t v k m =
+    let c = cond_some (formed (get_or t 0 0) (digit_count t)) (value 0 t, digit_count t) (v, k) (sym m) in
+    (c.0, ap (λ (x : ℕ × ℕ). x.0) c.1, ap (λ (x : ℕ × ℕ). x.1) c.1)
+
+pub spelt : (t : List ℕ) (v k : ℕ) → Some (v, k) ≡ magnitude t → Spelt t v k
+spelt t v k m =
+    let p = mag_parts t v k m in
+    let same : value 0 t ≡ v = p.1 in
+    let count : digit_count t ≡ k = p.2 in
+    let w = formed_within (get_or t 0 0) (digit_count t) p.0 in
     let low : value 0 t < 10 ^ (0 + digit_count t) = value_small 0 0 t (omega arith) in
     let top = ten_top (0 + digit_count t) 12 (omega (arith, w.1)) in
-    record { count = count; some = omega (arith, w.0); small = omega arith; fits = omega (arith, count_length t) }
-spelt_by t v k false e m = let z : ◌≡◌ {A = ℕ} 0 1 = cc in absurd (omega arith)
-
-pub spelt : (t : List ℕ) (v k : ℕ) → Spells v k ≡ magnitude t → Spelt t v k
-unfolding magnitude
-spelt t v k m = spelt_by t v k (formed (get_or t 0 0) (digit_count t)) refl m
+    record { count = sym count; some = omega (arith, w.0); small = omega arith; fits = omega (arith, count_length t) }
 
 -- ---- the ways out of number_at: `from` is past the sign
 pub number_minus : (t : List ℕ) → get_or t 0 0 ≡ 45 → number t ≡ negated (magnitude (drop 1 t))
@@ -251,7 +253,7 @@ pub number_plain : (t : List ℕ) → (get_or t 0 0 ≡ 45 → ⊥) → number t
 unfolding number
 number_plain t e = ap (λ (b : Bool). cond b (negated (magnitude (drop 1 t))) (plain (magnitude t))) (ne_eqb (get_or t 0 0) 45 e)
 
-pub past_end : (s : List ℕ) (at : ℕ) → length s ≤ at → Not ≡ number_at s at
+pub past_end : (s : List ℕ) (at : ℕ) → length s ≤ at → None ≡ number_at s at
 unfolding number_at number magnitude
 past_end s at h = rw (drop_of_length-le s h)
 
@@ -279,29 +281,29 @@ module _ (s : List ℕ) (at w : ℕ) (width : w ≡ cond (eqb (get_or s at 0) 45
       ap (shifted at) (number_plain (drop at s) (λ h. e (head_at 0 s at ∙ h)))
       ∙ ap (λ (n : ℕ). shifted at (plain (magnitude (drop n s)))) (sym (ap (λ (n : ℕ). at + n) q ∙ add-zero at))
 
-  pub number_none : None ≡ magnitude (drop (at + w) s) → Not ≡ number_at s at
-  number_none m = sign_by (Not ≡ number_at s at) (λ e q. sym (at_minus e q ∙ ap (λ (x : Magnitude). shifted at (negated x)) (sym m))) (λ e q. sym (at_plain e q ∙ ap (λ (x : Magnitude). shifted at (plain x)) (sym m)))
+  pub number_none : None ≡ magnitude (drop (at + w) s) → None ≡ number_at s at
+  number_none m = sign_by (None ≡ number_at s at) (λ e q. sym (at_minus e q ∙ ap (λ (x : Option (ℕ × ℕ)). shifted at (negated x)) (sym m))) (λ e q. sym (at_plain e q ∙ ap (λ (x : Option (ℕ × ℕ)). shifted at (plain x)) (sym m)))
 
-  module _ (v k : ℕ) (m : Spells v k ≡ magnitude (drop (at + w) s)) where
+  module _ (v k : ℕ) (m : Some (v, k) ≡ magnitude (drop (at + w) s)) where
     pub number_fits : at + w + k ≤ length s
     number_fits = let q = spelt (drop (at + w) s) v k m in omega (arith, q.some, q.fits, length-drop (at + w) s)
 
-    pub number_natural : w ≡ 0 → Is (pos v) (at + w + k) ≡ number_at s at
+    pub number_natural : w ≡ 0 → Some (pos v, at + w + k) ≡ number_at s at
     number_natural z =
-        sign_by (Is (pos v) (at + w + k) ≡ number_at s at) (λ e q. absurd (omega arith))
-        (λ e q. ap (Is (pos v)) (let n : at + w + k ≡ at + k = omega arith in n) ∙ sym (at_plain e q ∙ ap (λ (x : Magnitude). shifted at (plain x)) (sym m)))
+        sign_by (Some (pos v, at + w + k) ≡ number_at s at) (λ e q. absurd (omega arith))
+        (λ e q. ap (λ (j : ℕ). Some (pos v, j)) (let n : at + w + k ≡ at + k = omega arith in n) ∙ sym (at_plain e q ∙ ap (λ (x : Option (ℕ × ℕ)). shifted at (plain x)) (sym m)))
 
-    negative_is : (w ≡ 0 → ⊥) → number_at s at ≡ shifted at (negated (Spells v k))
-    negative_is z = sign_by (number_at s at ≡ shifted at (negated (Spells v k))) (λ e q. at_minus e q ∙ ap (λ (x : Magnitude). shifted at (negated x)) (sym m)) (λ e q. absurd (z q))
+    negative_is : (w ≡ 0 → ⊥) → number_at s at ≡ shifted at (negated (Some (v, k)))
+    negative_is z = sign_by (number_at s at ≡ shifted at (negated (Some (v, k)))) (λ e q. at_minus e q ∙ ap (λ (x : Option (ℕ × ℕ)). shifted at (negated x)) (sym m)) (λ e q. absurd (z q))
 
-    pub number_zero : (w ≡ 0 → ⊥) → v ≡ 0 → Not ≡ number_at s at
-    number_zero z h = sym (negative_is z ∙ ap (λ (b : Bool). shifted at (cond b Not (Is (neg_ℤ (pos v)) (suc k)))) (eq-eqb v 0 h))
+    pub number_zero : (w ≡ 0 → ⊥) → v ≡ 0 → None ≡ number_at s at
+    number_zero z h = sym (negative_is z ∙ ap (λ (b : Bool). shifted at (cond b None (Some (neg_ℤ (pos v), suc k)))) (eq-eqb v 0 h))
 
-    pub number_negative : (w ≡ 0 → ⊥) → (v ≡ 0 → ⊥) → Is (neg_ℤ (pos v)) (at + w + k) ≡ number_at s at
+    pub number_negative : (w ≡ 0 → ⊥) → (v ≡ 0 → ⊥) → Some (neg_ℤ (pos v), at + w + k) ≡ number_at s at
     number_negative z h =
         let one : w ≡ 1 = sign_by (w ≡ 1) (λ e q. q) (λ e q. absurd (z q)) in
         let n : at + w + k ≡ at + suc k = omega arith in
-        ap (Is (neg_ℤ (pos v))) n ∙ sym (negative_is z ∙ ap (λ (b : Bool). shifted at (cond b Not (Is (neg_ℤ (pos v)) (suc k)))) (ne_eqb v 0 h))
+        ap (λ (j : ℕ). Some (neg_ℤ (pos v), j)) n ∙ sym (negative_is z ∙ ap (λ (b : Bool). shifted at (cond b None (Some (neg_ℤ (pos v), suc k)))) (ne_eqb v 0 h))
 
 -- ---- the ways out of closed_at and negative_at
 sign_first : (t : List ℕ) → get_or t 0 0 ≡ 45 → digit_count (take 13 t) ≡ 0
@@ -312,48 +314,48 @@ unsigned : (s : List ℕ) (at : ℕ) → (get_or s at 0 ≡ 45 → ⊥) → numb
 unfolding number_at
 unsigned s at e = ap (shifted at) (number_plain (drop at s) (λ h. e (head_at 0 s at ∙ h)))
 
-pub closed_end : (s : List ℕ) (b at : ℕ) → length s ≤ at → Not ≡ closed_by s b (number_at s at)
+pub closed_end : (s : List ℕ) (b at : ℕ) → length s ≤ at → None ≡ closed_by s b (number_at s at)
 closed_end s b at h = ap (closed_by s b) (past_end s at h)
 
-pub closed_none : (s : List ℕ) (b at : ℕ) → digit_count (take 13 (drop at s)) ≡ 0 → (get_or s at 0 ≡ 45 → ⊥) → Not ≡ closed_by s b (number_at s at)
+pub closed_none : (s : List ℕ) (b at : ℕ) → digit_count (take 13 (drop at s)) ≡ 0 → (get_or s at 0 ≡ 45 → ⊥) → None ≡ closed_by s b (number_at s at)
 closed_none s b at z e =
     let m = mag_few s at (value 0 (take 13 (drop at s))) (digit_count (take 13 (drop at s))) refl refl (omega arith) in
-    sym (ap (closed_by s b) (unsigned s at e ∙ ap (λ (x : Magnitude). shifted at (plain x)) (sym m)))
+    sym (ap (closed_by s b) (unsigned s at e ∙ ap (λ (x : Option (ℕ × ℕ)). shifted at (plain x)) (sym m)))
 
 module _ (s : List ℕ) (b at v k : ℕ) where
-  natural_by : (f : Bool) → cond (f && eqb (get_or s (at + k) 0) b) (Is (pos v) (at + k + 1)) Not ≡ closed_by s b (shifted at (plain (cond f (Spells v k) None)))
+  natural_by : (f : Bool) → cond (f && eqb (get_or s (at + k) 0) b) (Some (pos v, at + k + 1)) None ≡ closed_by s b (shifted at (plain (cond f (Some (v, k)) None)))
   natural_by true = refl
   natural_by false = refl
 
   pub closed_natural : (v ≡ value 0 (take 13 (drop at s))) × (k ≡ digit_count (take 13 (drop at s))) → (k ≡ 0 → ⊥)
-      → (r f : Bool) → r ≡ (formed (get_or s at 0) k && eqb (get_or s (at + k) 0) b) → r ≡ f → cond f (Is (pos v) (at + k + 1)) Not ≡ closed_by s b (number_at s at)
+      → (r f : Bool) → r ≡ (formed (get_or s at 0) k && eqb (get_or s (at + k) 0) b) → r ≡ f → cond f (Some (pos v, at + k + 1)) None ≡ closed_by s b (number_at s at)
   closed_natural d h r f e q =
       let n = unsigned s at (λ x. h (d.1 ∙ sign_first (drop at s) (sym (head_at 0 s at) ∙ x))) in
       let m = mag_by s at v k d.0 d.1 (formed (get_or s at 0) k) refl in
-      ap (λ (x : Bool). cond x (Is (pos v) (at + k + 1)) Not) (sym q ∙ e) ∙ natural_by (formed (get_or s at 0) k)
-      ∙ sym (ap (closed_by s b) (n ∙ ap (λ (x : Magnitude). shifted at (plain x)) m))
+      ap (λ (x : Bool). cond x (Some (pos v, at + k + 1)) None) (sym q ∙ e) ∙ natural_by (formed (get_or s at 0) k)
+      ∙ sym (ap (closed_by s b) (n ∙ ap (λ (x : Option (ℕ × ℕ)). shifted at (plain x)) m))
 
-  neither : (q : Bool) → cond q Not Not ≡ Not
+  neither : (q : Bool) → ◌≡◌ {A = Option (ℤ × ℕ)} (cond q None None) None
   neither true = refl
   neither false = refl
 
-  below_by : (x : ℤ) (z : Bool) (n : ℕ) → n ≡ at + suc k → cond (eqb (get_or s n 0) b) (cond z Not (Is x (n + 1))) Not ≡ closed_by s b (shifted at (cond z Not (Is x (suc k))))
+  below_by : (x : ℤ) (z : Bool) (n : ℕ) → n ≡ at + suc k → cond (eqb (get_or s n 0) b) (cond z None (Some (x, n + 1))) None ≡ closed_by s b (shifted at (cond z None (Some (x, suc k))))
   below_by x true n e = neither (eqb (get_or s n 0) b)
-  below_by x false n e = ap (λ (m : ℕ). cond (eqb (get_or s m 0) b) (Is x (m + 1)) Not) e
+  below_by x false n e = ap (λ (m : ℕ). cond (eqb (get_or s m 0) b) (Some (x, m + 1)) None) e
 
-  negative_by : (f : Bool) → cond (f && eqb (get_or s (at + 1 + k) 0) b) (cond (eqb v 0) Not (Is (neg_ℤ (pos v)) (at + 1 + k + 1))) Not ≡ closed_by s b (shifted at (negated (cond f (Spells v k) None)))
+  negative_by : (f : Bool) → cond (f && eqb (get_or s (at + 1 + k) 0) b) (cond (eqb v 0) None (Some (neg_ℤ (pos v), at + 1 + k + 1))) None ≡ closed_by s b (shifted at (negated (cond f (Some (v, k)) None)))
   negative_by true = below_by (neg_ℤ (pos v)) (eqb v 0) (at + 1 + k) (omega arith)
   negative_by false = refl
 
   pub closed_negative : (v ≡ value 0 (take 13 (drop (at + 1) s))) × (k ≡ digit_count (take 13 (drop (at + 1) s))) → get_or s at 0 ≡ 45
       → (r f : Bool) → r ≡ (formed (get_or s (at + 1) 0) k && eqb (get_or s (at + 1 + k) 0) b) → r ≡ f → (z : Bool) → eqb v 0 ≡ z
-      → cond f (cond z Not (Is (neg_ℤ (pos v)) (at + 1 + k + 1))) Not ≡ closed_by s b (number_at s at)
+      → cond f (cond z None (Some (neg_ℤ (pos v), at + 1 + k + 1))) None ≡ closed_by s b (number_at s at)
   closed_negative d h r f e q z o =
       let n = at_minus s at 1 (sym (ap (λ (x : Bool). cond x 1 0) (eq-eqb (get_or s at 0) 45 h))) h refl in
       let m = mag_by s (at + 1) v k d.0 d.1 (formed (get_or s (at + 1) 0) k) refl in
-      ap (λ (x : Bool). cond f (cond x Not (Is (neg_ℤ (pos v)) (at + 1 + k + 1))) Not) (sym o)
-      ∙ ap (λ (x : Bool). cond x (cond (eqb v 0) Not (Is (neg_ℤ (pos v)) (at + 1 + k + 1))) Not) (sym q ∙ e) ∙ negative_by (formed (get_or s (at + 1) 0) k)
-      ∙ sym (ap (closed_by s b) (n ∙ ap (λ (x : Magnitude). shifted at (negated x)) m))
+      ap (λ (x : Bool). cond f (cond x None (Some (neg_ℤ (pos v), at + 1 + k + 1))) None) (sym o)
+      ∙ ap (λ (x : Bool). cond x (cond (eqb v 0) None (Some (neg_ℤ (pos v), at + 1 + k + 1))) None) (sym q ∙ e) ∙ negative_by (formed (get_or s (at + 1) 0) k)
+      ∙ sym (ap (closed_by s b) (n ∙ ap (λ (x : Option (ℕ × ℕ)). shifted at (negated x)) m))
 
 -- a number that a byte closes is a number
 pub closed_spelt : (s : List ℕ) (b at v k : ℕ) → (v ≡ value 0 (take 13 (drop at s))) × (k ≡ digit_count (take 13 (drop at s)))

@@ -1,25 +1,23 @@
 -- Only what would be printed is read: a number has one spelling, and a row one line. Assumes nothing.
+use Rattle.std.specs.Prelude.{Some, None, Option}
 use Prim.Native.Nat.{ℕ, zero, suc, ◌+◌, ◌-◌, ◌*◌, ◌/◌, ◌%◌, ◌<◌, ◌≤◌}
 use mathlib.Core.Path.{◌≡◌, refl, sym, ap, subst, ◌∙◌}
 use mathlib.Core.List.{List, [], ◌∷◌, ◌++◌, append_assoc, append-nil}
-use mathlib.Core.Option.{Option, none, some}
 use mathlib.Core.Bool.{Bool, true, false, cond, not, ◌&&◌, ◌||◌}
 use mathlib.Core.Logic.{⊎_elim, ◌↔◌}
 use native.Mathlib.Omega.{arith}
 use native.Mathlib.Nat.{add-zero, eq-zero-or-pos}
 use borrow.Author.Tests.{leb-true, eqb-true}
 use lib.Dec.{eqb, leb}
+use Rattle.std.proofs.lemmas.Option.{none-some}
 use lib.ListN.{length, drop, take, get_or, take-append-drop}
 use lib.Seq.{drop-cons, length-take-le}
 use lib.IntN.{ℤ, pos, negsuc, neg_ℤ}
 use Rattle.rules_number.proofs.OverLaws.{never, both}
-use Rattle.rules_text.specs.declared.Magnitude.{Magnitude}
-use Rattle.rules_text.specs.declared.Magnitude.TheVariants.{Spells, None}
-use Rattle.rules_text.specs.declared.Number.{Number}
-use Rattle.rules_text.specs.declared.Number.TheVariants.{Is, Not}
 use Rattle.rules_text.specs.Numbers.{Line, Row, is_digit, digit_count, value, formed, magnitude, plain, negated, number, closing, put, field, row}
-use Rattle.rules_text.proofs.ListLaws.{byte_there}
-use Rattle.rules_text.proofs.NumberLaws.{value_none, formed_within, spelt}
+use Rattle.rules_text.proofs.ListLaws.{byte_there, some_pair}
+use Rattle.rules_text.proofs.LineLaws.{plain_end, negated_end}
+use Rattle.rules_text.proofs.NumberLaws.{value_none, formed_within, mag_parts, spelt}
 use Rattle.rules_text.proofs.RowLaws.{closing_some}
 use Rattle.rules_text.specs.Printing.{digits, decimal, line_text}
 use Rattle.rules_text.proofs.PrintLaws.{digits_one, digits_more}
@@ -91,16 +89,8 @@ formed_first : (t : List ℕ) → formed (get_or t 0 0) (digit_count t) ≡ true
 formed_first [] e = never e
 formed_first (b ∷ t) e = first_by b t (is_digit b) refl e
 
-digits_by : (t : List ℕ) (v k : ℕ) (b : Bool) → formed (get_or t 0 0) (digit_count t) ≡ b → Spells v k ≡ cond b (Spells (value 0 t) (digit_count t)) None → take k t ≡ digits 19 v
-digits_by t v k true e m =
-    let p : v ≡ value 0 t = cc in
-    let q : k ≡ digit_count t = cc in
-    ap (λ (n : ℕ). take n t) q ∙ formed_first t e ∙ ap (digits 19) (sym p)
-digits_by t v k false e m = let z : ◌≡◌ {A = ℕ} 0 1 = cc in absurd (omega arith)
-
-digits_only : (t : List ℕ) (v k : ℕ) → Spells v k ≡ magnitude t → take k t ≡ digits 19 v
-unfolding magnitude
-digits_only t v k m = digits_by t v k (formed (get_or t 0 0) (digit_count t)) refl m
+digits_only : (t : List ℕ) (v k : ℕ) → Some (v, k) ≡ magnitude t → take k t ≡ digits 19 v
+digits_only t v k m = let p = mag_parts t v k m in ap (λ (n : ℕ). take n t) (sym p.2) ∙ formed_first t p.0 ∙ ap (digits 19) p.1
 
 -- ---- numbers
 -- a text begins with the only spelling of z, of k bytes
@@ -108,34 +98,34 @@ pub record Spelling (t : List ℕ) (z : ℤ) (k : ℕ) : Type 0 where
   pub is : take k t ≡ decimal z
   pub small : Small z
 
-plain_only : (t : List ℕ) (z : ℤ) (k : ℕ) (m : Magnitude) → m ≡ magnitude t → plain m ≡ Is z k → Spelling t z k
+plain_only : (t : List ℕ) (z : ℤ) (k : ℕ) (m : Option (ℕ × ℕ)) → m ≡ magnitude t → plain m ≡ Some (z, k) → Spelling t z k
 unfolding decimal
-plain_only t z k None e h = let q : ◌≡◌ {A = ℕ} 0 1 = cc in absurd (omega arith)
-plain_only t z k (Spells v n) e h =
-    let p : pos v ≡ z = cc in
-    let q : n ≡ k = cc in
+plain_only t z k None e h = absurd (none-some (z, k) h)
+plain_only t z k (Some (v, n)) e h =
+    let p : pos v ≡ z = (some_pair h).0 in
+    let q : n ≡ k = (some_pair h).1 in
     subst (Spelling t z) q (subst (λ (x : ℤ). Spelling t x n) p (record { is = digits_only t v n e; small = (spelt t v n e).small }))
 
-minus_by : (b : ℕ) (t : List ℕ) (z : ℤ) (k v n : ℕ) (d : Bool) → b ≡ 45 → Spells v n ≡ magnitude t → eqb v 0 ≡ d → cond d Not (Is (neg_ℤ (pos v)) (suc n)) ≡ Is z k → Spelling (b ∷ t) z k
+minus_by : (b : ℕ) (t : List ℕ) (z : ℤ) (k v n : ℕ) (d : Bool) → b ≡ 45 → Some (v, n) ≡ magnitude t → eqb v 0 ≡ d → ◌≡◌ {A = Option (ℤ × ℕ)} (cond d None (Some (neg_ℤ (pos v), suc n))) (Some (z, k)) → Spelling (b ∷ t) z k
 unfolding decimal
-minus_by b t z k v n true w e f h = let q : ◌≡◌ {A = ℕ} 0 1 = cc in absurd (omega arith)
+minus_by b t z k v n true w e f h = absurd (none-some (z, k) h)
 minus_by b t z k zero n false w e f h = never (sym f)
 minus_by b t z k (suc v) n false w e f h =
-    let p : negsuc v ≡ z = cc in
-    let q : suc n ≡ k = cc in
+    let p : negsuc v ≡ z = (some_pair h).0 in
+    let q : suc n ≡ k = (some_pair h).1 in
     subst (Spelling (b ∷ t) z) q (subst (λ (x : ℤ). Spelling (b ∷ t) x (suc n)) p
     (record { is = ap (λ (x : ℕ). x ∷ take n t) w ∙ ap (λ (l : List ℕ). 45 ∷ l) (digits_only t (suc v) n e); small = (spelt t (suc v) n e).small }))
 
-minus_only : (b : ℕ) (t : List ℕ) (z : ℤ) (k : ℕ) (m : Magnitude) → b ≡ 45 → m ≡ magnitude t → negated m ≡ Is z k → Spelling (b ∷ t) z k
-minus_only b t z k None w e h = let q : ◌≡◌ {A = ℕ} 0 1 = cc in absurd (omega arith)
-minus_only b t z k (Spells v n) w e h = minus_by b t z k v n (eqb v 0) w e refl h
+minus_only : (b : ℕ) (t : List ℕ) (z : ℤ) (k : ℕ) (m : Option (ℕ × ℕ)) → b ≡ 45 → m ≡ magnitude t → negated m ≡ Some (z, k) → Spelling (b ∷ t) z k
+minus_only b t z k None w e h = absurd (none-some (z, k) h)
+minus_only b t z k (Some (v, n)) w e h = minus_by b t z k v n (eqb v 0) w e refl h
 
-number_by : (b : ℕ) (t : List ℕ) (z : ℤ) (k : ℕ) (d : Bool) → eqb b 45 ≡ d → cond d (negated (magnitude t)) (plain (magnitude (b ∷ t))) ≡ Is z k → Spelling (b ∷ t) z k
+number_by : (b : ℕ) (t : List ℕ) (z : ℤ) (k : ℕ) (d : Bool) → eqb b 45 ≡ d → cond d (negated (magnitude t)) (plain (magnitude (b ∷ t))) ≡ Some (z, k) → Spelling (b ∷ t) z k
 number_by b t z k true e h = minus_only b t z k (magnitude t) (eqb-true b 45 e) refl h
 number_by b t z k false e h = plain_only (b ∷ t) z k (magnitude (b ∷ t)) refl h
 
 -- what is read as a number is that number's only spelling
-pub number_only : (t : List ℕ) (z : ℤ) (k : ℕ) → number t ≡ Is z k → Spelling t z k
+pub number_only : (t : List ℕ) (z : ℤ) (k : ℕ) → number t ≡ Some (z, k) → Spelling t z k
 unfolding number
 number_only [] z k h = plain_only [] z k (magnitude []) refl h
 number_only (b ∷ t) z k h = number_by b t z k (eqb b 45) refl h
@@ -147,10 +137,10 @@ pub record Spelled (k : ℕ) (l : Line) (xs : Row) : Type 0 where
   pub small : Every Small xs
 
 module _ (k : ℕ) (l : Line) (xs : Row) (z : ℤ) (n : ℕ) (s : Spelling l z n) (closed : eqb (get_or l n 0) (closing k) ≡ true) where
-  put_only : (o : Option Row) → o ≡ row k (drop (suc n) l) → put z o ≡ some xs → ((zs : Row) → row k (drop (suc n) l) ≡ some zs → Spelled k (drop (suc n) l) zs) → Spelled (suc k) l xs
+  put_only : (o : Option Row) → o ≡ row k (drop (suc n) l) → put z o ≡ Some xs → ((zs : Row) → row k (drop (suc n) l) ≡ Some zs → Spelled k (drop (suc n) l) zs) → Spelled (suc k) l xs
   unfolding line_text
-  put_only none e h ih = let q : ◌≡◌ {A = ℕ} 0 1 = cc in absurd (omega arith)
-  put_only (some zs) e h ih =
+  put_only None e h ih = absurd (none-some xs h)
+  put_only (Some zs) e h ih =
       let p : z ∷ zs ≡ xs = cc in
       let r = ih zs (sym e) in
       let c : get_or l n 0 ≡ closing k = eqb-true (get_or l n 0) (closing k) closed in
@@ -164,28 +154,28 @@ module _ (k : ℕ) (l : Line) (xs : Row) (z : ℤ) (n : ℕ) (s : Spelling l z n
         small = and_all s.small r.small;
       })
 
-close_only : (k : ℕ) (l : Line) (xs : Row) (z : ℤ) (n : ℕ) (d : Bool) → Spelling l z n → eqb (get_or l n 0) (closing k) ≡ d → cond d (put z (row k (drop (suc n) l))) none ≡ some xs
-    → ((zs : Row) → row k (drop (suc n) l) ≡ some zs → Spelled k (drop (suc n) l) zs) → Spelled (suc k) l xs
+close_only : (k : ℕ) (l : Line) (xs : Row) (z : ℤ) (n : ℕ) (d : Bool) → Spelling l z n → eqb (get_or l n 0) (closing k) ≡ d → cond d (put z (row k (drop (suc n) l))) None ≡ Some xs
+    → ((zs : Row) → row k (drop (suc n) l) ≡ Some zs → Spelled k (drop (suc n) l) zs) → Spelled (suc k) l xs
 close_only k l xs z n true s e h ih = put_only k l xs z n s e (row k (drop (suc n) l)) refl h ih
-close_only k l xs z n false s e h ih = let q : ◌≡◌ {A = ℕ} 0 1 = cc in absurd (omega arith)
+close_only k l xs z n false s e h ih = absurd (none-some xs h)
 
-field_only : (k : ℕ) (l : Line) (xs : Row) (x : Number) → number l ≡ x → field x l (closing k) (row k) ≡ some xs
-    → ((t : Line) (zs : Row) → row k t ≡ some zs → Spelled k t zs) → Spelled (suc k) l xs
-field_only k l xs Not e h ih = let q : ◌≡◌ {A = ℕ} 0 1 = cc in absurd (omega arith)
-field_only k l xs (Is z n) e h ih = close_only k l xs z n (eqb (get_or l n 0) (closing k)) (number_only l z n e) refl h (ih (drop (suc n) l))
+field_only : (k : ℕ) (l : Line) (xs : Row) (x : Option (ℤ × ℕ)) → number l ≡ x → field x l (closing k) (row k) ≡ Some xs
+    → ((t : Line) (zs : Row) → row k t ≡ Some zs → Spelled k t zs) → Spelled (suc k) l xs
+field_only k l xs None e h ih = absurd (none-some xs h)
+field_only k l xs (Some (z, n)) e h ih = close_only k l xs z n (eqb (get_or l n 0) (closing k)) (number_only l z n e) refl h (ih (drop (suc n) l))
 
-nil_only : (l : Line) (xs : Row) → row 0 l ≡ some xs → Spelled 0 l xs
+nil_only : (l : Line) (xs : Row) → row 0 l ≡ Some xs → Spelled 0 l xs
 unfolding row line_text
 nil_only [] xs h = let p : [] ≡ xs = cc in subst (Spelled 0 []) p (record { count = refl; is = refl; small = no_more })
-nil_only (b ∷ l) xs h = let q : ◌≡◌ {A = ℕ} 0 1 = cc in absurd (omega arith)
+nil_only (b ∷ l) xs h = absurd (none-some xs h)
 
-pub row_only : (k : ℕ) (l : Line) (xs : Row) → row k l ≡ some xs → Spelled k l xs
+pub row_only : (k : ℕ) (l : Line) (xs : Row) → row k l ≡ Some xs → Spelled k l xs
 unfolding row
 row_only zero l xs h = nil_only l xs h
 row_only (suc k) l xs h = field_only k l xs (number l) refl h (row_only k)
 
 -- a line is read as k values exactly where it is the line of those, each of at most 12 digits
-pub row_iff : (k : ℕ) (l : Line) (xs : Row) → (row k l ≡ some xs) ↔ Spelled k l xs
+pub row_iff : (k : ℕ) (l : Line) (xs : Row) → (row k l ≡ Some xs) ↔ Spelled k l xs
 row_iff k l xs = (row_only k l xs, λ s. ap (row k) s.is ∙ row_every k xs s.count s.small)
 
 -- a text begins with a number exactly where it begins with its decimal, and no digit follows
@@ -204,43 +194,28 @@ past_digits : (t : List ℕ) → digit_count (drop (digit_count t) t) ≡ 0
 past_digits [] = refl
 past_digits (b ∷ t) = past_by b t (is_digit b) refl (past_digits t)
 
-mag_stop : (t : List ℕ) (v k : ℕ) → Spells v k ≡ magnitude t → (digit_count (drop k t) ≡ 0) × (k ≤ length t)
+mag_stop : (t : List ℕ) (v k : ℕ) → Some (v, k) ≡ magnitude t → (digit_count (drop k t) ≡ 0) × (k ≤ length t)
 mag_stop t v k e = let s = spelt t v k e in (ap (λ (n : ℕ). digit_count (drop n t)) s.count ∙ past_digits t, s.fits)
 
-plain_stop : (t : List ℕ) (z : ℤ) (k : ℕ) (m : Magnitude) → m ≡ magnitude t → plain m ≡ Is z k → (digit_count (drop k t) ≡ 0) × (k ≤ length t)
-plain_stop t z k None e h = let q : ◌≡◌ {A = ℕ} 0 1 = cc in absurd (omega arith)
-plain_stop t z k (Spells v n) e h = let q : n ≡ k = cc in subst (λ (j : ℕ). (digit_count (drop j t) ≡ 0) × (j ≤ length t)) q (mag_stop t v n e)
+stop_by : (b : ℕ) (t : List ℕ) (z : ℤ) (k : ℕ) (d : Bool) → cond d (negated (magnitude t)) (plain (magnitude (b ∷ t))) ≡ Some (z, k) → (digit_count (drop k (b ∷ t)) ≡ 0) × (k ≤ suc (length t))
+stop_by b t z k true h = negated_end k z (magnitude t) (λ (j : ℕ). (digit_count (drop j (b ∷ t)) ≡ 0) × (j ≤ suc (length t))) (λ v n m. let s = mag_stop t v n m in (s.0, omega (arith, s.1))) h
+stop_by b t z k false h = plain_end k z (magnitude (b ∷ t)) (λ (j : ℕ). (digit_count (drop j (b ∷ t)) ≡ 0) × (j ≤ suc (length t))) (mag_stop (b ∷ t)) h
 
-minus_stop_by : (b : ℕ) (t : List ℕ) (z : ℤ) (k v n : ℕ) (d : Bool) → Spells v n ≡ magnitude t → cond d Not (Is (neg_ℤ (pos v)) (suc n)) ≡ Is z k → (digit_count (drop k (b ∷ t)) ≡ 0) × (k ≤ suc (length t))
-minus_stop_by b t z k v n true e h = let q : ◌≡◌ {A = ℕ} 0 1 = cc in absurd (omega arith)
-minus_stop_by b t z k v n false e h =
-    let q : suc n ≡ k = cc in
-    let m = mag_stop t v n e in
-    subst (λ (j : ℕ). (digit_count (drop j (b ∷ t)) ≡ 0) × (j ≤ suc (length t))) q (m.0, omega (arith, m.1))
-
-minus_stop : (b : ℕ) (t : List ℕ) (z : ℤ) (k : ℕ) (m : Magnitude) → m ≡ magnitude t → negated m ≡ Is z k → (digit_count (drop k (b ∷ t)) ≡ 0) × (k ≤ suc (length t))
-minus_stop b t z k None e h = let q : ◌≡◌ {A = ℕ} 0 1 = cc in absurd (omega arith)
-minus_stop b t z k (Spells v n) e h = minus_stop_by b t z k v n (eqb v 0) e h
-
-stop_by : (b : ℕ) (t : List ℕ) (z : ℤ) (k : ℕ) (d : Bool) → cond d (negated (magnitude t)) (plain (magnitude (b ∷ t))) ≡ Is z k → (digit_count (drop k (b ∷ t)) ≡ 0) × (k ≤ suc (length t))
-stop_by b t z k true h = minus_stop b t z k (magnitude t) refl h
-stop_by b t z k false h = plain_stop (b ∷ t) z k (magnitude (b ∷ t)) refl h
-
-number_stop : (t : List ℕ) (z : ℤ) (k : ℕ) → number t ≡ Is z k → (digit_count (drop k t) ≡ 0) × (k ≤ length t)
+number_stop : (t : List ℕ) (z : ℤ) (k : ℕ) → number t ≡ Some (z, k) → (digit_count (drop k t) ≡ 0) × (k ≤ length t)
 unfolding number
-number_stop [] z k h = plain_stop [] z k (magnitude []) refl h
+number_stop [] z k h = plain_end k z (magnitude []) (λ (j : ℕ). (digit_count (drop j []) ≡ 0) × (j ≤ 0)) (mag_stop []) h
 number_stop (b ∷ t) z k h = stop_by b t z k (eqb b 45) h
 
 -- both ways
-pub number_iff : (t : List ℕ) (z : ℤ) (k : ℕ) → (number t ≡ Is z k) ↔ Begins t z k
+pub number_iff : (t : List ℕ) (z : ℤ) (k : ℕ) → (number t ≡ Some (z, k)) ↔ Begins t z k
 number_iff t z k = (there, back)
   where
-    there : number t ≡ Is z k → Begins t z k
+    there : number t ≡ Some (z, k) → Begins t z k
     there h =
         let s = number_only t z k h in
         let e = number_stop t z k h in
         record { is = s.is; count = sym (length-take-le k t e.1) ∙ ap length s.is; small = s.small; stop = e.0 }
 
-    back : Begins t z k → number t ≡ Is z k
+    back : Begins t z k → number t ≡ Some (z, k)
     back b =
-        ap number (sym (take-append-drop k t) ∙ ap (λ (l : List ℕ). l ++ drop k t) b.is) ∙ number_back z (drop k t) b.small b.stop ∙ ap (Is z) (sym b.count)
+        ap number (sym (take-append-drop k t) ∙ ap (λ (l : List ℕ). l ++ drop k t) b.is) ∙ number_back z (drop k t) b.small b.stop ∙ ap (λ (j : ℕ). Some (z, j)) (sym b.count)

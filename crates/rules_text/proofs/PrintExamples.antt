@@ -1,10 +1,10 @@
 -- The definitions at closed texts, computed. Assumes nothing.
+use Rattle.std.specs.Prelude.{Some}
 use mathlib.Core.Path.{◌≡◌, refl}
 use mathlib.Core.List.{[], ◌∷◌}
 use lib.IntN.{pos, negsuc}
 use Rattle.rules_text.specs.Numbers.{bytes}
 use Rattle.rules_text.specs.Printing.{digits, decimal, line_text, refusal_text, printed, printed_to}
-use Rattle.rules_text.specs.declared.Printed.TheVariants.{To}
 
 negative : decimal (negsuc 21633) ≡ bytes "-21634"
 unfolding decimal digits
@@ -23,7 +23,7 @@ refusal : refusal_text 17 23 ≡ bytes "refusal line\n17 23\n"
 unfolding refusal_text line_text decimal digits
 refusal = refl
 
-fits : printed_to (bytes "....") 1 (bytes "-5\n") ≡ To 4
+fits : printed_to (bytes "....") 1 (bytes "-5\n") ≡ Some 4
 unfolding printed_to
 fits = refl
 

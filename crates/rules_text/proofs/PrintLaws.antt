@@ -1,4 +1,5 @@
 -- Laws of specs/Printing: the digits of a number, put one by one from the last, and texts put one after another. Assumes nothing.
+use Rattle.std.specs.Prelude.{None, Some}
 use Prim.Native.Nat.{ℕ, zero, suc, ◌+◌, ◌-◌, ◌*◌, ◌/◌, ◌%◌, ◌^◌, ◌≤◌, ◌<◌, min}
 use mathlib.Core.Path.{◌≡◌, refl, sym, ap, subst, ◌∙◌}
 use mathlib.Core.List.{List, [], ◌∷◌, ◌++◌}
@@ -13,7 +14,6 @@ use lib.Seq.{sets, length-sets, take_all}
 use lib.IntN.{ℤ, pos, negsuc, nat_abs}
 use lib.Signed.{lt_z, mag}
 use Rattle.rules_number.proofs.OverLaws.{never, le_or_lt}
-use Rattle.rules_text.specs.declared.Printed.TheVariants.{To, Full}
 use Rattle.rules_text.specs.Numbers.{Row, closing}
 use Rattle.rules_text.specs.Printing.{digits, sign, decimal, line_text, holds, printed, printed_to}
 use Rattle.rules_text.proofs.ListLaws.{at_cons, sets_append, sets_set}
@@ -300,14 +300,14 @@ names_step out now at names i h e =
     ap (λ (j : ℕ). sets (set now (at + i) (get_or names i 0)) j (drop (i + 1) names)) k ∙ ap (sets now (at + i)) (sym (at_cons 0 names i h)) ∙ e
 
 module _ (out : List ℕ) (at : ℕ) (text : List ℕ) where
-  pub prints : (now : List ℕ) (r : ℕ) → holds out at text ≡ true → now ≡ sets out at text → r ≡ at + length text → (now ≡ printed out at text) × (To r ≡ printed_to out at text)
+  pub prints : (now : List ℕ) (r : ℕ) → holds out at text ≡ true → now ≡ sets out at text → r ≡ at + length text → (now ≡ printed out at text) × (Some r ≡ printed_to out at text)
   unfolding printed printed_to
   prints now r h e f =
-      (e ∙ sym (ap (λ (b : Bool). cond b (sets out at text) out) h), ap To f ∙ sym (ap (λ (b : Bool). cond b (To (at + length text)) Full) h))
+      (e ∙ sym (ap (λ (b : Bool). cond b (sets out at text) out) h), ap Some f ∙ sym (ap (λ (b : Bool). cond b (Some (at + length text)) None) h))
 
-  pub prints_none : holds out at text ≡ false → (out ≡ printed out at text) × (Full ≡ printed_to out at text)
+  pub prints_none : holds out at text ≡ false → (out ≡ printed out at text) × (None ≡ printed_to out at text)
   unfolding printed printed_to
-  prints_none h = (sym (ap (λ (b : Bool). cond b (sets out at text) out) h), sym (ap (λ (b : Bool). cond b (To (at + length text)) Full) h))
+  prints_none h = (sym (ap (λ (b : Bool). cond b (sets out at text) out) h), sym (ap (λ (b : Bool). cond b (Some (at + length text)) None) h))
 
 -- a line has at most 21 bytes for each value
 pub line_few : (x : Row) → length (line_text x) ≤ 21 * length x

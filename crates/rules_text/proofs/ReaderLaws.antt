@@ -1,19 +1,16 @@
 -- A reader reads back lines: one law for each way in which readers are put together. Assumes nothing.
+use Rattle.std.specs.Prelude.{None, Option, Some}
 use Prim.Native.Nat.{ℕ, zero, suc, ◌+◌, ◌^◌, ◌<◌, ◌≤◌}
 use Prim.Native.String.{String}
 use mathlib.Core.Path.{◌≡◌, refl, sym, ap, subst, ◌∙◌}
 use mathlib.Core.List.{List, [], ◌∷◌, ◌++◌, append_assoc, map}
-use mathlib.Core.Option.{Option, none, some}
 use mathlib.Core.Bool.{Bool, true, false, cond}
 use native.Mathlib.Omega.{arith}
 use native.Mathlib.Nat.{add-zero}
 use borrow.Author.Tests.{eq-eqb, ne_eqb}
-use lib.Dec.{eqb}
 use lib.ListN.{length, drop, get_or, length-append, length-map}
 use lib.Seq.{drop-append_seam}
 use lib.IntN.{ℤ, pos}
-use Rattle.rules_text.specs.declared.Number.{Number}
-use Rattle.rules_text.specs.declared.Number.TheVariants.{Not}
 use Rattle.rules_text.specs.Numbers.{Line, Row, bytes, same, number, closing, field, row}
 use Rattle.rules_text.specs.Tables.{Reader, Reading, found, faulty, next, ◌▷◌, taken, due, headed, single, one, if_suits, has_id, and_more, run, rows, counting, counted, each, grouped, pairs}
 use Rattle.rules_text.specs.Printing.{line_text}
@@ -47,7 +44,7 @@ module _ {A : Type 0} where
       let e : suc n + length ls ≡ n + suc (length ls) = omega arith in
       ap (λ (b : Bool). cond b (r (suc n) (ls ++ rest)) (faulty (suc n))) (same_refl (bytes names)) ∙ p (suc n) ∙ ap (λ (k : ℕ). found a k rest) e
 
-  pub due_back : (is : Line → Option A) (l : Line) (a : A) (rest : List Line) → is l ≡ some a → Reads (due is) (l ∷ []) a rest
+  pub due_back : (is : Line → Option A) (l : Line) (a : A) (rest : List Line) → is l ≡ Some a → Reads (due is) (l ∷ []) a rest
   unfolding due
   due_back is l a rest e n =
       let k : suc n ≡ n + 1 = omega arith in
@@ -59,10 +56,10 @@ every_at P d [] h i k = absurd (omega arith)
 every_at P d (x ∷ l) (and_all p h) zero k = p
 every_at P d (x ∷ l) (and_all p h) (suc i) k = every_at P d l h i (omega arith)
 
-pub row_every : (k : ℕ) (x : Row) → length x ≡ k → Every Small x → row k (line_text x) ≡ some x
-row_every k x e h = subst (λ (j : ℕ). row j (line_text x) ≡ some x) e (row_back x (every_at Small (pos 0) x h))
+pub row_every : (k : ℕ) (x : Row) → length x ≡ k → Every Small x → row k (line_text x) ≡ Some x
+row_every k x e h = subst (λ (j : ℕ). row j (line_text x) ≡ Some x) e (row_back x (every_at Small (pos 0) x h))
 
-pub single_back : (z : ℤ) → Small z → single (line_text (z ∷ [])) ≡ some z
+pub single_back : (z : ℤ) → Small z → single (line_text (z ∷ [])) ≡ Some z
 unfolding single
 single_back z h = ap one (row_every 1 (z ∷ []) refl (and_all h no_more))
 
@@ -76,29 +73,29 @@ rows_back of xs rest e n =
 
 -- ---- runs
 -- a line that suits, and the run goes on
-pub run_more : (k : ℕ) (suits : ℕ → Row → Bool) (after : ℕ → Row → ℕ) (i : ℕ) (x : Row) (ls : List Line) → row k (line_text x) ≡ some x → suits i x ≡ true
+pub run_more : (k : ℕ) (suits : ℕ → Row → Bool) (after : ℕ → Row → ℕ) (i : ℕ) (x : Row) (ls : List Line) → row k (line_text x) ≡ Some x → suits i x ≡ true
     → run k suits after i (line_text x ∷ ls) ≡ x ∷ run k suits after (after i x) ls
 unfolding run
 run_more k suits after i x ls e s =
     ap (λ (o : Option Row). and_more (if_suits (suits i) o) (λ y. run k suits after (after i y) ls)) e
-    ∙ ap (λ (b : Bool). and_more (cond b (some x) none) (λ y. run k suits after (after i y) ls)) s
+    ∙ ap (λ (b : Bool). and_more (cond b (Some x) None) (λ y. run k suits after (after i y) ls)) s
 
 -- a line that does not suit ends it
-pub run_other : (k : ℕ) (suits : ℕ → Row → Bool) (after : ℕ → Row → ℕ) (i : ℕ) (x : Row) (ls : List Line) → row k (line_text x) ≡ some x → suits i x ≡ false
+pub run_other : (k : ℕ) (suits : ℕ → Row → Bool) (after : ℕ → Row → ℕ) (i : ℕ) (x : Row) (ls : List Line) → row k (line_text x) ≡ Some x → suits i x ≡ false
     → run k suits after i (line_text x ∷ ls) ≡ []
 unfolding run
 run_other k suits after i x ls e s =
     ap (λ (o : Option Row). and_more (if_suits (suits i) o) (λ y. run k suits after (after i y) ls)) e
-    ∙ ap (λ (b : Bool). and_more (cond b (some x) none) (λ y. run k suits after (after i y) ls)) s
+    ∙ ap (λ (b : Bool). and_more (cond b (Some x) None) (λ y. run k suits after (after i y) ls)) s
 
 -- lines of which the first, if any, begins with no number
 abbrev pub Names : List Line → Type 0
-Names ls = number (get_or ls 0 []) ≡ Not
+Names ls = number (get_or ls 0 []) ≡ None
 
 pub run_names : (k : ℕ) (suits : ℕ → Row → Bool) (after : ℕ → Row → ℕ) (i : ℕ) (ls : List Line) → Names ls → run (suc k) suits after i ls ≡ []
 unfolding run row
 run_names k suits after i [] h = refl
-run_names k suits after i (l ∷ ls) h = ap (λ (z : Number). and_more (if_suits (suits i) (field z l (closing k) (row k))) (λ y. run (suc k) suits after (after i y) ls)) h
+run_names k suits after i (l ∷ ls) h = ap (λ (z : Option (ℤ × ℕ)). and_more (if_suits (suits i) (field z l (closing k) (row k))) (λ y. run (suc k) suits after (after i y) ls)) h
 
 -- ---- rows that count up
 id_yes : (i : ℕ) (x : Row) → has_id i (pos i ∷ x) ≡ true
@@ -112,7 +109,7 @@ pub record Values (k : ℕ) (x : Row) : Type 0 where
   pub count : length x ≡ k
   pub small : Every Small x
 
-row_id : (k i : ℕ) (x : Row) → Values k x → i < 10 ^ 12 → row (suc k) (line_text (pos i ∷ x)) ≡ some (pos i ∷ x)
+row_id : (k i : ℕ) (x : Row) → Values k x → i < 10 ^ 12 → row (suc k) (line_text (pos i ∷ x)) ≡ Some (pos i ∷ x)
 row_id k i x v h = row_every (suc k) (pos i ∷ x) (ap suc v.count) (and_all h v.small)
 
 module _ {A : Type 0} (f : A → Row) where
@@ -145,8 +142,8 @@ module _ {A : Type 0} (f : A → Row) where
     each_back i [] h s = λ n. ap (λ (j : ℕ). found [] j rest) (sym (add-zero n))
     each_back i (a ∷ l) (and_all v h) s =
         let x : Row = pos i ∷ f a in
-        let o : if_suits (has_id i) (row (suc k) (line_text x)) ≡ some x =
-        ap (if_suits (has_id i)) (row_id k i (f a) v (omega arith)) ∙ ap (λ (b : Bool). cond b (some x) none) (id_yes i (f a)) in
+        let o : if_suits (has_id i) (row (suc k) (line_text x)) ≡ Some x =
+        ap (if_suits (has_id i)) (row_id k i (f a) v (omega arith)) ∙ ap (λ (b : Bool). cond b (Some x) None) (id_yes i (f a)) in
         then_back (due (λ t. if_suits (has_id i) (row (suc k) t))) (λ y. each (suc k) (length l) (suc i) ▷ λ ys. found (y ∷ ys)) (line_text x ∷ []) (map line_text (counted_rows f (suc i) l)) x (x ∷ counted_rows f (suc i) l) rest
         (due_back (λ t. if_suits (has_id i) (row (suc k) t)) (line_text x) x (map line_text (counted_rows f (suc i) l) ++ rest) o)
         (into_back (each (suc k) (length l) (suc i)) (λ ys. x ∷ ys) (map line_text (counted_rows f (suc i) l)) (counted_rows f (suc i) l) rest (each_back (suc i) l h (omega arith)))

@@ -1,8 +1,8 @@
 -- What is printed is read back: a number of at most 12 digits, whatever follows it that is no digit, and a line of such numbers. Assumes nothing.
+use Rattle.std.specs.Prelude.{None, Option, Some}
 use Prim.Native.Nat.{ℕ, zero, suc, ◌+◌, ◌-◌, ◌*◌, ◌/◌, ◌%◌, ◌^◌, ◌≤◌, ◌<◌}
 use mathlib.Core.Path.{◌≡◌, refl, sym, ap, subst, ◌∙◌}
 use mathlib.Core.List.{List, [], ◌∷◌, ◌++◌, append_assoc}
-use mathlib.Core.Option.{none, some}
 use mathlib.Core.Bool.{Bool, true, cond}
 use mathlib.Core.Logic.{⊎_elim}
 use native.Mathlib.Omega.{arith}
@@ -14,9 +14,6 @@ use lib.ListN.{length, drop, get_or, length-append}
 use lib.Seq.{get_or-append_seam, drop-append-add}
 use lib.IntN.{ℤ, pos, negsuc, nat_abs}
 use Rattle.rules_number.proofs.OverLaws.{le_or_lt}
-use Rattle.rules_text.specs.declared.Magnitude.TheVariants.{Spells}
-use Rattle.rules_text.specs.declared.Number.{Number}
-use Rattle.rules_text.specs.declared.Number.TheVariants.{Is, Not}
 use Rattle.rules_text.specs.Numbers.{Row, digit_count, value, formed, magnitude, plain, negated, number, closing, put, field, row}
 use Rattle.rules_text.specs.Printing.{digits, decimal, line_text}
 use Rattle.rules_text.proofs.ListLaws.{or_true}
@@ -116,36 +113,36 @@ module _ (n : ℕ) (r : List ℕ) (small : n < 10 ^ 12) (stop : digit_count r �
   first : First n r
   first = ⊎_elim at_zero above (eq-zero-or-pos n)
 
-  magnitude_back : magnitude (digits 19 n ++ r) ≡ Spells n (length (digits 19 n))
+  magnitude_back : magnitude (digits 19 n ++ r) ≡ Some (n, length (digits 19 n))
   magnitude_back =
       mag_is (digits 19 n ++ r) first.1
-      ∙ ap (λ (v : ℕ). Spells v (digit_count (digits 19 n ++ r))) (value_back 19 n r (omega arith) ∙ value_none n r stop)
-      ∙ ap (Spells n) counted
+      ∙ ap (λ (v : ℕ). Some (v, digit_count (digits 19 n ++ r))) (value_back 19 n r (omega arith) ∙ value_none n r stop)
+      ∙ ap (λ (j : ℕ). Some (n, j)) counted
 
 -- a number of at most 12 digits that is printed is read back as itself, where no digit follows
-pub number_back : (z : ℤ) (r : List ℕ) → nat_abs z < 10 ^ 12 → digit_count r ≡ 0 → number (decimal z ++ r) ≡ Is z (length (decimal z))
+pub number_back : (z : ℤ) (r : List ℕ) → nat_abs z < 10 ^ 12 → digit_count r ≡ 0 → number (decimal z ++ r) ≡ Some (z, length (decimal z))
 unfolding decimal
 number_back (pos n) r small stop = number_plain (digits 19 n ++ r) (first n r small stop).0 ∙ ap plain (magnitude_back n r small stop)
 number_back (negsuc m) r small stop =
     number_minus (45 ∷ digits 19 (suc m) ++ r) refl ∙ ap negated (magnitude_back (suc m) r small stop)
-    ∙ ap (λ (b : Bool). cond b Not (Is (negsuc m) (suc (length (digits 19 (suc m)))))) (ne_eqb (suc m) 0 (λ q. omega arith))
+    ∙ ap (λ (b : Bool). cond b None (Some (negsuc m, suc (length (digits 19 (suc m)))))) (ne_eqb (suc m) 0 (λ q. omega arith))
 
 closing_none : (k : ℕ) (t : List ℕ) → digit_count (closing k ∷ t) ≡ 0
 closing_none zero t = refl
 closing_none (suc k) t = refl
 
-row_by : (k : ℕ) (z : ℤ) (zs : Row) (d t : List ℕ) → number (d ++ (closing k ∷ t)) ≡ Is z (length d) → row k t ≡ some zs → row (suc k) (d ++ (closing k ∷ t)) ≡ some (z ∷ zs)
+row_by : (k : ℕ) (z : ℤ) (zs : Row) (d t : List ℕ) → number (d ++ (closing k ∷ t)) ≡ Some (z, length d) → row k t ≡ Some zs → row (suc k) (d ++ (closing k ∷ t)) ≡ Some (z ∷ zs)
 unfolding row
 row_by k z zs d t e ih =
     let l = d ++ (closing k ∷ t) in
-    ap (λ (x : Number). field x l (closing k) (row k)) e
-    ∙ ap (λ (b : Bool). cond b (put z (row k (drop (suc (length d)) l))) none) (eq-eqb (get_or l (length d) 0) (closing k) (get_or-append_seam d (closing k) t 0))
+    ap (λ (x : Option (ℤ × ℕ)). field x l (closing k) (row k)) e
+    ∙ ap (λ (b : Bool). cond b (put z (row k (drop (suc (length d)) l))) None) (eq-eqb (get_or l (length d) 0) (closing k) (get_or-append_seam d (closing k) t 0))
     ∙ ap (λ (n : ℕ). put z (row k (drop n l))) (sym (add-one (length d)))
     ∙ ap (λ (u : List ℕ). put z (row k u)) (drop-append-add d (closing k ∷ t) 1)
     ∙ ap (put z) ih
 
 -- a line of such numbers that is printed is read back as itself
-pub row_back : (xs : Row) → ((i : ℕ) → i < length xs → nat_abs (get_or xs i (pos 0)) < 10 ^ 12) → row (length xs) (line_text xs) ≡ some xs
+pub row_back : (xs : Row) → ((i : ℕ) → i < length xs → nat_abs (get_or xs i (pos 0)) < 10 ^ 12) → row (length xs) (line_text xs) ≡ Some xs
 unfolding line_text row
 row_back [] small = refl
 row_back (z ∷ zs) small =

@@ -1,24 +1,23 @@
 -- Laws of stages: a table with its names line, read at an offset of a text, ends at another, and what was read has no more lines than the text. Assumes nothing.
+use Rattle.std.specs.Prelude.{Some, None, Option}
 use Prim.Native.Nat.{ℕ, suc, ◌+◌, ◌≤◌}
 use Prim.Native.String.{String}
 use mathlib.Core.Path.{◌≡◌, refl, sym, ap, ◌∙◌}
 use mathlib.Core.List.{List, [], ◌∷◌}
-use mathlib.Core.Option.{Option, none, some}
 use mathlib.Core.Bool.{Bool, true, false, cond}
 use native.Mathlib.Omega.{arith}
 use lib.ListN.{length, drop, length-drop}
 use Rattle.rules_text.specs.Numbers.{Line, Row, bytes, same, lines, row}
 use Rattle.rules_text.specs.Tables.{Reader, faulty, found, headed, if_suits, and_more, run, rows}
 use Rattle.rules_text.specs.Offsets.{names_at, bytes_of}
-use Rattle.rules_text.specs.declared.Found.TheVariants.{At}
 use Rattle.rules_text.proofs.LineLaws.{lines_few}
 use Rattle.rules_text.proofs.NameLaws.{is_line, past_names}
 use Rattle.rules_text.proofs.UsedLaws.{Used, bytes_past, used_lines, used_names, used_then}
 
 -- ---- how many lines are read
 more_few : (o : Option Row) (more : Row → List Row) (m : ℕ) → ((x : Row) → length (more x) ≤ m) → length (and_more o more) ≤ suc m
-more_few none more m h = omega arith
-more_few (some x) more m h = let q = h x in omega arith
+more_few None more m h = omega arith
+more_few (Some x) more m h = let q = h x in omega arith
 
 -- a run has no more rows than there are lines
 pub run_few : (k : ℕ) (suits : ℕ → Row → Bool) (step : ℕ → Row → ℕ) (i : ℕ) (ls : List Line) → length (run k suits step i ls) ≤ length ls
@@ -36,7 +35,7 @@ headed_few names [] rest e = let z : ◌≡◌ {A = ℕ} 0 1 = cc in absurd (ome
 headed_few names (l ∷ ls) rest e = rest_few (same (bytes names) l) ls rest e
 
 -- past a names line there is one line fewer
-pub names_few : (names : String) (s : List ℕ) (at : ℕ) → is_line (bytes names) ≡ true → (q : ℕ) → At q ≡ names_at s at (bytes names) → length (lines (drop q s)) + 1 ≤ length (lines (drop at s))
+pub names_few : (names : String) (s : List ℕ) (at : ℕ) → is_line (bytes names) ≡ true → (q : ℕ) → Some q ≡ names_at s at (bytes names) → length (lines (drop q s)) + 1 ≤ length (lines (drop at s))
 names_few names s at w q e = headed_few names (lines (drop at s)) (lines (drop q s)) (past_names names (λ n l. found l n []) 0 s at w q e)
 
 -- the lines of a text from an offset on are no more than its bytes
@@ -69,7 +68,7 @@ table_rows of fits s n at count at' ec en =
 
 -- the table with its names
 pub table : (names : String) (of : List Line → List Row) → is_line (bytes names) ≡ true → ((ls : List Line) → length (of ls) ≤ length ls)
-    → (s : List ℕ) (n at q : ℕ) → At q ≡ names_at s at (bytes names) → (count at' : ℕ) → count ≡ length (of (lines (drop q s))) → at' ≡ q + bytes_of count (lines (drop q s))
+    → (s : List ℕ) (n at q : ℕ) → Some q ≡ names_at s at (bytes names) → (count at' : ℕ) → count ≡ length (of (lines (drop q s))) → at' ≡ q + bytes_of count (lines (drop q s))
     → Stage (headed names (rows of)) s n at (of (lines (drop q s))) (n + 1 + count) at'
 table names of w fits s n at q e count at' ec en =
     let t = table_rows of fits s (n + 1) q count at' ec en in

@@ -1,11 +1,12 @@
 -- Laws of tables: a line that is due, and a run of lines that suit, read by a loop. One law for each way through its body, for every table. Assumes nothing.
+use Rattle.std.specs.Prelude.{None, Option, Some}
 use Prim.Native.Nat.{ℕ, suc, ◌+◌, ◌-◌, ◌<◌}
 use native.Mathlib.Omega.{arith}
 use native.Mathlib.Numerals.{add-one}
 use mathlib.Core.Path.{◌≡◌, refl, sym, ap, ◌∙◌}
 use mathlib.Core.List.{List, [], ◌∷◌, map}
-use mathlib.Core.Option.{Option, none, some}
 use mathlib.Core.Bool.{Bool}
+use Rattle.std.proofs.lemmas.Option.{none-some}
 use lib.ListN.{length, drop, set, length-drop, length-replicate, replicate}
 use lib.Seq.{sets, drop-drop, length-sets}
 use Rattle.rules_text.specs.Numbers.{Line, Row, lines, number, magnitude, row}
@@ -13,25 +14,20 @@ use Rattle.rules_text.specs.Tables.{faulty, found, due, if_suits, run}
 use Rattle.rules_text.specs.Offsets.{kept}
 use Rattle.rules_text.proofs.LineLaws.{line, after, lines_cons, lines_some}
 
-there : (b : ℕ) (u : List ℕ) → b ∷ u ≡ [] → ⊥
-there b u z = let o : ◌≡◌ {A = ℕ} 0 1 = cc in absurd (omega arith)
-
 -- a line of values stands in the text
-pub row_there : (suits : Row → Bool) (k : ℕ) (x : Row) (t : List ℕ) → if_suits suits (row (suc k) (line t)) ≡ some x → t ≡ [] → ⊥
+pub row_there : (suits : Row → Bool) (k : ℕ) (x : Row) (t : List ℕ) → if_suits suits (row (suc k) (line t)) ≡ Some x → t ≡ [] → ⊥
 unfolding row number magnitude
 row_there suits k x t e z =
-    let q : ◌≡◌ {A = Option Row} (some x) none = sym e ∙ ap (λ (l : List ℕ). if_suits suits (row (suc k) (line l))) z in
-    let o : ◌≡◌ {A = ℕ} 0 1 = cc in
-    absurd (omega arith)
+    none-some x (sym (ap (λ (l : List ℕ). if_suits suits (row (suc k) (line l))) z) ∙ e)
 
 -- ---- a line that is due
 module _ {A : Type 0} (is : Line → Option A) (n : ℕ) where
-  pub due_none : (t : List ℕ) → is (line t) ≡ none → due is n (lines t) ≡ faulty (n + 1)
+  pub due_none : (t : List ℕ) → is (line t) ≡ None → due is n (lines t) ≡ faulty (n + 1)
   unfolding due
   due_none [] e = rw add-one refl
   due_none (b ∷ u) e = rw (lines_cons b u, e, add-one) refl
 
-  pub due_some : (t : List ℕ) (a : A) → (t ≡ [] → ⊥) → is (line t) ≡ some a → due is n (lines t) ≡ found a (n + 1) (lines (after t))
+  pub due_some : (t : List ℕ) (a : A) → (t ≡ [] → ⊥) → is (line t) ≡ Some a → due is n (lines t) ≡ found a (n + 1) (lines (after t))
   unfolding due
   due_some t a h e = rw (lines_some t h, e, add-one) refl
 
@@ -40,12 +36,12 @@ module _ {X : Type 0} (k : ℕ) (suits : ℕ → Row → Bool) (step : ℕ → R
   abbrev pub From : ℕ → List ℕ → List Row
   From i t = run (suc k) suits step i (lines t)
 
-  from_none : (i : ℕ) (t : List ℕ) → if_suits (suits i) (row (suc k) (line t)) ≡ none → From i t ≡ []
+  from_none : (i : ℕ) (t : List ℕ) → if_suits (suits i) (row (suc k) (line t)) ≡ None → From i t ≡ []
   unfolding run
   from_none i [] e = refl
   from_none i (b ∷ u) e = rw (lines_cons b u, e) refl
 
-  from_more : (i : ℕ) (t : List ℕ) (x : Row) → if_suits (suits i) (row (suc k) (line t)) ≡ some x → From i t ≡ x ∷ From (step i x) (after t)
+  from_more : (i : ℕ) (t : List ℕ) (x : Row) → if_suits (suits i) (row (suc k) (line t)) ≡ Some x → From i t ≡ x ∷ From (step i x) (after t)
   unfolding run
   from_more i t x e = rw (lines_some t (row_there (suits i) k x t e), e) refl
 
@@ -62,7 +58,7 @@ module _ {X : Type 0} (k : ℕ) (suits : ℕ → Row → Bool) (step : ℕ → R
 
   module _ (n i : ℕ) (a : List X) (t : List ℕ) (N : ℕ) (S : List X) (L : List Line) (h : Loop n i a t N S L) where
     -- the line does not suit, or is none of values
-    pub ends : if_suits (suits i) (row (suc k) (line t)) ≡ none → Ended n a t N S L
+    pub ends : if_suits (suits i) (row (suc k) (line t)) ≡ None → Ended n a t N S L
     ends e =
         let y = from_none i t e in
         let z : length (From i t) ≡ 0 = ap length y in
@@ -75,7 +71,7 @@ module _ {X : Type 0} (k : ℕ) (suits : ℕ → Row → Bool) (step : ℕ → R
       pub fewer : length (lines u) < length (lines t)
       pub below : n < length L
 
-    module _ (x : Row) (e : if_suits (suits i) (row (suc k) (line t)) ≡ some x) where
+    module _ (x : Row) (e : if_suits (suits i) (row (suc k) (line t)) ≡ Some x) where
       pub turns : (j : ℕ) → step i x ≡ j → (b : List X) → b ≡ set a n (f x) → (u : List ℕ) → u ≡ after t → Turned j b u
       turns j ej b eb u eu =
           let y : From i t ≡ x ∷ From j u = from_more i t x e ∙ ap (λ (m : ℕ). x ∷ From m (after t)) ej ∙ ap (λ (l : List ℕ). x ∷ From j l) (sym eu) in

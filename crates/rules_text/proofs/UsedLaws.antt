@@ -1,18 +1,18 @@
 -- Laws of lines that are used: the offset after them is the offset before them plus their bytes. Assumes nothing.
+use Rattle.std.specs.Prelude.{None, Some, Option}
 use Prim.Native.Nat.{ℕ, zero, suc, ◌+◌, ◌-◌, ◌≤◌}
 use Prim.Native.String.{String}
 use mathlib.Core.Path.{◌≡◌, refl, sym, ap, ◌∙◌}
 use mathlib.Core.List.{List, [], ◌∷◌}
-use mathlib.Core.Option.{Option, none, some}
 use mathlib.Core.Bool.{Bool, true, false, cond}
 use native.Mathlib.Omega.{arith}
+use Rattle.std.proofs.lemmas.Option.{cond_some}
 use lib.ListN.{length, drop, take, length-append}
 use lib.Seq.{drop-drop}
 use Rattle.rules_text.specs.Numbers.{Line, Row, bytes, same, lines, row}
 use Rattle.rules_text.specs.Tables.{Reader, Reading, faulty, found, next, ◌▷◌, taken, due, headed, has_id, if_suits, rows, each, grouped}
 use Rattle.rules_text.specs.Spelled.{together}
 use Rattle.rules_text.specs.Offsets.{names_at, bytes_of}
-use Rattle.rules_text.specs.declared.Found.TheVariants.{At, Nothing}
 use Rattle.rules_text.proofs.LineLaws.{line, after, lines_cons}
 use Rattle.rules_text.proofs.NameLaws.{is_line, same_eq, past_names}
 
@@ -102,10 +102,6 @@ pub used_count : {s : List ℕ} {at k at' : ℕ} → Used s 0 at k at' → at' �
 used_count {s} {at} {k} u = let z : k - 0 ≡ k = omega arith in u.offset ∙ ap (λ (i : ℕ). at + bytes_of i (lines (drop at s))) z
 
 -- ---- a names line
-names_end : (b : Bool) (p q : ℕ) → At q ≡ cond b (At p) Nothing → q ≡ p
-names_end true p q e = cc
-names_end false p q e = let z : ◌≡◌ {A = ℕ} 0 1 = cc in absurd (omega arith)
-
 first_by : (names : String) (l : Line) (ls rest : List Line) (b : Bool) → same (bytes names) l ≡ b → cond b (found ls 1 []) (faulty 1) ≡ found rest 1 [] → bytes_of 1 (l ∷ ls) ≡ length (bytes names)
 first_by names l ls rest true h e = omega (arith, bytes_cons 0 l ls, bytes_none ls, ap length (same_eq (bytes names) l h))
 first_by names l ls rest false h e = let z : ◌≡◌ {A = ℕ} 0 1 = cc in absurd (omega arith)
@@ -115,12 +111,12 @@ unfolding headed
 first_bytes names [] rest e = let z : ◌≡◌ {A = ℕ} 0 1 = cc in absurd (omega arith)
 first_bytes names (l ∷ ls) rest e = first_by names l ls rest (same (bytes names) l) refl e
 
-pub used_names : (names : String) (s : List ℕ) (n at : ℕ) → is_line (bytes names) ≡ true → (q : ℕ) → At q ≡ names_at s at (bytes names) → Used s n at (n + 1) q
+pub used_names : (names : String) (s : List ℕ) (n at : ℕ) → is_line (bytes names) ≡ true → (q : ℕ) → Some q ≡ names_at s at (bytes names) → Used s n at (n + 1) q
 unfolding names_at
 used_names names s n at w q e =
     let f = first_bytes names (lines (drop at s)) (lines (drop q s)) (past_names names (λ n l. found l n []) 0 s at w q e) in
-    let g = names_end (same (bytes names) (take (length (bytes names)) (drop at s))) (at + length (bytes names)) q e in
-    used_lines s n at 1 q (omega arith) (n + 1) refl
+    let g = cond_some (same (bytes names) (take (length (bytes names)) (drop at s))) (at + length (bytes names)) q (sym e) in
+    used_lines s n at 1 q (omega (arith, g.1)) (n + 1) refl
 
 -- ---- the number of the last line is not below that of the line before the first
 abbrev pub Rises : {A : Type 0} → ℕ → Reading A → Type 0
@@ -146,8 +142,8 @@ rises_headed names r h n [] = rises_fault n (suc n)
 rises_headed names r h n (l ∷ ls) = rises_cond n (same (bytes names) l) (r (suc n) ls) (suc n) (λ a k rest e. omega (arith, h (suc n) ls a k rest e))
 
 rises_taken : {A : Type 0} (n : ℕ) (o : Option A) (ls : List Line) → Rises n (taken o n ls)
-rises_taken n none ls = rises_fault n (suc n)
-rises_taken n (some a) ls = λ b k rest e. omega (arith, rises_found a (suc n) ls b k rest e)
+rises_taken n None ls = rises_fault n (suc n)
+rises_taken n (Some a) ls = λ b k rest e. omega (arith, rises_found a (suc n) ls b k rest e)
 
 pub rises_due : {A : Type 0} (is : Line → Option A) (n : ℕ) (ls : List Line) → Rises n (due is n ls)
 unfolding due

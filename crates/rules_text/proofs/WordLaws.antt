@@ -1,4 +1,5 @@
 -- Bytes as one number (request 2.4): equal words are equal bytes, a word by its halves, and names lines compared by word. Assumes nothing.
+use Rattle.std.specs.Prelude.{None, Some}
 use Prim.Native.Nat.{ℕ, zero, suc, ◌+◌, ◌*◌, ◌^◌, ◌≤◌, ◌<◌}
 use mathlib.Core.Path.{◌≡◌, refl, sym, ap, ap₂, ◌∙◌}
 use mathlib.Core.Logic.{◌↔◌}
@@ -12,7 +13,6 @@ use lib.ListN.{length, drop, take, get_or, length-drop}
 use lib.Seq.{get_or-drop, drop-drop}
 use Rattle.rules_text.specs.Offsets.{names_at}
 use Rattle.rules_text.specs.Words.{word_in}
-use Rattle.rules_text.specs.declared.Found.TheVariants.{At, Nothing}
 use Rattle.rules_text.proofs.NameLaws.{starts, names_by}
 
 -- each a byte
@@ -128,10 +128,10 @@ module _ (s : List ℕ) (at : ℕ) (w : List ℕ) (i : ℕ) (bs : Bytes s) (bw :
       starts_through 8 (drop i w) (drop (at + i) s) (omega arith) (omega arith) (same_word.0 (sym e))
       ∙ ap₂ starts (drop-drop 8 i w) (drop-drop 8 (at + i) s ∙ ap (λ (q : ℕ). drop q s) (add_assoc at i 8)) in
       let past : at + (i + 8) + length (drop (i + 8) w) ≡ at + i + length (drop i w) = omega arith in
-      sym (names_by s (at + (i + 8)) (drop (i + 8) w) b (sym more)) ∙ ap (λ (q : ℕ). cond b (At q) Nothing) past ∙ names_by s (at + i) (drop i w) b refl
+      sym (names_by s (at + (i + 8)) (drop (i + 8) w) b (sym more)) ∙ ap (λ (q : ℕ). cond b (Some q) None) past ∙ names_by s (at + i) (drop i w) b refl
 
   -- other words: they don't
-  pub word_other : (word_in 8 (drop (at + i) s) ≡ word_in 8 (drop i w) → ⊥) → Nothing ≡ names_at s (at + i) (drop i w)
+  pub word_other : (word_in 8 (drop (at + i) s) ≡ word_in 8 (drop i w) → ⊥) → None ≡ names_at s (at + i) (drop i w)
   word_other n =
       let m = length-drop i w in
       names_by s (at + i) (drop i w) false (starts_apart 8 (drop i w) (drop (at + i) s) (omega arith) (λ e. n (sym (same_word.1 e))))

@@ -1,12 +1,7 @@
 -- Paper 01, Text: lines, their numbers and values. A text is a list of bytes.
-use Rattle.std.specs.Prelude.{ℕ, zero, suc, ◌+◌, ◌-◌, ◌*◌, List, [], ◌∷◌, Bool, true, false, cond, not, ◌&&◌, ◌||◌, drop, get_or, leb, eqb, ℤ, pos, neg_ℤ}
+use Rattle.std.specs.Prelude.{ℕ, zero, suc, ◌+◌, ◌-◌, ◌*◌, List, [], ◌∷◌, Bool, true, false, cond, not, ◌&&◌, ◌||◌, drop, get_or, leb, eqb, ℤ, pos, neg_ℤ, Some, None, Option}
 use Prim.Native.String.{String, [] as nothing, ◌∷◌ as ◌before◌}
 use Prim.Native.Char.{code}
-use Rattle.std.proofs.Math.Option.{Option, none, some}
-use Rattle.rules_text.specs.declared.Magnitude.{Magnitude}
-use Rattle.rules_text.specs.declared.Magnitude.TheVariants.{Spells, None}
-use Rattle.rules_text.specs.declared.Number.{Number}
-use Rattle.rules_text.specs.declared.Number.TheVariants.{Is, Not}
 
 -- the bytes of a line, the byte 10 that closes it included
 abbrev pub Line : Type 0
@@ -65,34 +60,34 @@ abbrev pub formed : ℕ → ℕ → Bool
 formed first k = (leb 1 k && leb k 12) && (eqb k 1 || not (eqb first 48))
 
 -- the digits that a text begins with, as a number, and how many they are
-unfoldable pub magnitude : List ℕ → Magnitude
-magnitude t = cond (formed (get_or t 0 0) (digit_count t)) (Spells (value 0 t) (digit_count t)) None
+unfoldable pub magnitude : List ℕ → Option (ℕ × ℕ)
+magnitude t = cond (formed (get_or t 0 0) (digit_count t)) (Some (value 0 t, digit_count t)) None
 
-abbrev pub plain : Magnitude → Number
-plain None = Not
-plain (Spells v k) = Is (pos v) k
+abbrev pub plain : Option (ℕ × ℕ) → Option (ℤ × ℕ)
+plain None = None
+plain (Some (v, k)) = Some (pos v, k)
 
 -- after "-"; there is no -0
-abbrev pub negated : Magnitude → Number
-negated None = Not
-negated (Spells v k) = cond (eqb v 0) Not (Is (neg_ℤ (pos v)) (suc k))
+abbrev pub negated : Option (ℕ × ℕ) → Option (ℤ × ℕ)
+negated None = None
+negated (Some (v, k)) = cond (eqb v 0) None (Some (neg_ℤ (pos v), suc k))
 
 -- the number that a text begins with, and how many bytes it takes
-unfoldable pub number : List ℕ → Number
+unfoldable pub number : List ℕ → Option (ℤ × ℕ)
 number t = cond (eqb (get_or t 0 0) 45) (negated (magnitude (drop 1 t))) (plain (magnitude t))
 
 -- ---- "lines of values"
 abbrev pub put : ℤ → Option Row → Option Row
-put z none = none
-put z (some zs) = some (z ∷ zs)
+put z None = None
+put z (Some zs) = Some (z ∷ zs)
 
 -- a number closed by the byte b, and then the rest of the line
-abbrev pub field : Number → Line → ℕ → (Line → Option Row) → Option Row
-field Not l b rest = none
-field (Is z k) l b rest = let more = put z (rest (drop (suc k) l)) in cond (eqb (get_or l k 0) b) more none
+abbrev pub field : Option (ℤ × ℕ) → Line → ℕ → (Line → Option Row) → Option Row
+field None l b rest = None
+field (Some (z, k)) l b rest = let more = put z (rest (drop (suc k) l)) in cond (eqb (get_or l k 0) b) more None
 
 -- the k numbers of a line of values
 unfoldable pub row : ℕ → Line → Option Row
-row zero [] = some []
-row zero (b ∷ t) = none
+row zero [] = Some []
+row zero (b ∷ t) = None
 row (suc k) l = field (number l) l (closing k) (row k)

@@ -1,9 +1,7 @@
 -- Paper 01, Text: what is printed.
-use Rattle.std.specs.Prelude.{ℕ, zero, suc, ◌+◌, ◌/◌, ◌%◌, List, [], ◌∷◌, ◌++◌, Bool, cond, length, leb, ltb, ℤ, pos, negsuc}
+use Rattle.std.specs.Prelude.{ℕ, zero, suc, ◌+◌, ◌/◌, ◌%◌, List, [], ◌∷◌, ◌++◌, Bool, cond, length, leb, ltb, ℤ, pos, negsuc, None, Option, Some}
 use Rattle.rules_text.specs.Numbers.{Row, bytes, closing}
 use Rattle.std.proofs.lemmas.List.Edits.{sets}
-use Rattle.rules_text.specs.declared.Printed.{Printed}
-use Rattle.rules_text.specs.declared.Printed.TheVariants.{To, Full}
 
 -- the decimal digits of n, where they are at most f
 unfoldable pub digits : ℕ → ℕ → List ℕ
@@ -49,5 +47,5 @@ unfoldable pub printed : List ℕ → ℕ → List ℕ → List ℕ
 printed out at text = cond (holds out at text) (sets out at text) out
 
 -- the offset after the text, where it fits
-unfoldable pub printed_to : List ℕ → ℕ → List ℕ → Printed
-printed_to out at text = cond (holds out at text) (To (at + length text)) Full
+unfoldable pub printed_to : List ℕ → ℕ → List ℕ → Option ℕ
+printed_to out at text = cond (holds out at text) (Some (at + length text)) None

@@ -1,7 +1,6 @@
 -- Paper 01, Text: tables, read line by line, with the number of the lines before.
-use Rattle.std.specs.Prelude.{ℕ, zero, suc, ◌+◌, List, [], ◌∷◌, Bool, cond, length, drop, get_or, ℤ, pos}
+use Rattle.std.specs.Prelude.{ℕ, zero, suc, ◌+◌, List, [], ◌∷◌, Bool, cond, length, drop, get_or, ℤ, pos, None, Option, Some}
 use Prim.Native.String.{String}
-use Rattle.std.proofs.Math.Option.{Option, none, some}
 use Rattle.rules_number.specs.Order.{eq_z}
 use Rattle.rules_text.specs.Numbers.{Line, Row, bytes, row, same}
 
@@ -25,8 +24,8 @@ abbrev pub ◌▷◌ : {A B : Type 0} → Reader A → (A → Reader B) → Read
 
 -- ---- lines that are due: any other is "the faulty one", or "the one after the last if the text ends early"
 abbrev pub taken : {A : Type 0} → Option A → Reader A
-taken none n ls = faulty (suc n)
-taken (some a) n ls = found a (suc n) ls
+taken None n ls = faulty (suc n)
+taken (Some a) n ls = found a (suc n) ls
 
 unfoldable pub due : {A : Type 0} → (Line → Option A) → Reader A
 due is n [] = faulty (suc n)
@@ -42,16 +41,16 @@ abbrev pub cell : ℕ → Row → ℤ
 cell i x = get_or x i (pos 0)
 
 abbrev pub one : Option Row → Option ℤ
-one none = none
-one (some x) = some (cell 0 x)
+one None = None
+one (Some x) = Some (cell 0 x)
 
 -- the value of a line of one value: "month and parameter one line"
 unfoldable pub single : Line → Option ℤ
 single l = one (row 1 l)
 
 abbrev pub if_suits : (Row → Bool) → Option Row → Option Row
-if_suits suits none = none
-if_suits suits (some x) = cond (suits x) (some x) none
+if_suits suits None = None
+if_suits suits (Some x) = cond (suits x) (Some x) None
 
 -- whether a line's first value, its id, is n: "Ids (portfolio, resource, constraint) count from 0"
 abbrev pub has_id : ℕ → Row → Bool
@@ -59,8 +58,8 @@ has_id n x = eq_z (pos n) (cell 0 x)
 
 -- ---- tables that end before the first line that does not suit: what follows them refuses that line
 abbrev pub and_more : Option Row → (Row → List Row) → List Row
-and_more none more = []
-and_more (some x) more = x ∷ more x
+and_more None more = []
+and_more (Some x) more = x ∷ more x
 
 -- the longest run of lines of k values that suit, where i is what suits depends on, from line to line
 unfoldable pub run : ℕ → (ℕ → Row → Bool) → (ℕ → Row → ℕ) → ℕ → List Line → List Row

@@ -1,7 +1,7 @@
 // The whole run: a text in, what is printed out (paper 01, Text). The contracts cite the definitions of rules_run.
 #![tactic(auto)]
 
-ghost use Rattle.std.specs.Prelude.{◌≡◌, true, map, ◌+◌, ◌-◌, ◌*◌, ◌≤◌, ◌<◌, length, drop, replicate, set, get_or};
+ghost use Rattle.std.specs.Prelude.{IfSome, IsSome, IsNone, ◌≡◌, true, map, ◌+◌, ◌-◌, ◌*◌, ◌≤◌, ◌<◌, length, drop, replicate, set, get_or};
 ghost use Rattle.std.proofs.lemmas.List.Edits.{sets};
 ghost use Rattle.rules_text.specs.Numbers.{lines};
 ghost use Rattle.rules_text.specs.Printing.{refusal_text, group_text};
@@ -10,7 +10,7 @@ ghost use Rattle.rules_hour.specs.Hours.{uncut};
 ghost use Rattle.rules_page.specs.Pages.{verdict_text, curve_text, curve_table, curve_rows, curve_bytes, curves_bytes, printable, Put};
 ghost use Rattle.rules_library.specs.Slices.{cell_at};
 ghost use Rattle.line_copies.specs.Lines.{width_of, lines_again};
-ghost use Rattle.rules_state.specs.Layout.{most_resources, rows_from, verdict_room};
+ghost use Rattle.rules_state.specs.Layout.{most_resources, rows_from, room_of_row, verdict_room};
 ghost use Rattle.rules_state.specs.States.{hour_in, standing_in, market_in, rows_in};
 ghost use Rattle.rules_state.specs.Verdicts.{verdicts_in};
 ghost use Rattle.rules_run.specs.Run.{hour_text, output, ended_by, hour_end, end_of, run_room, ran_within, ran_to};
@@ -21,7 +21,6 @@ use opening_part::{PartOpened, SHORT_BYTES};
 use rules_interval::Interval;
 use rules_mitigation::Mitigated;
 use rules_run::Ran;
-use rules_text::Printed;
 
 // Room for what any text prints: four pages and the lines of a refusal.
 pub const ROOM: usize = 655_424;
@@ -45,12 +44,12 @@ fn put_refusal(out: &mut [u8], at: usize, number: u64, line: usize) -> Ending
     ensures end { ended_by result.number result.line ≡ ended_by number line }
 {
     match page::print_refusal(out, at, number, line as u64) {
-        Printed::To(next) => Ending {
+        Some(next) => Ending {
             at: next,
             number,
             line,
         },
-        Printed::Full => Ending { at, number, line },
+        None => Ending { at, number, line },
     }
 }
 
@@ -62,6 +61,21 @@ const FEW_BYTES: usize = 4096;
 const FEW_RESOURCES: usize = 8;
 
 const FEW_CELLS: usize = rules_state::ROWS_FROM + FEW_RESOURCES * rules_state::ROW_ROOM;
+
+// Two numbers of each resource, and the width of each line of its curve.
+const ONE_PLACES: usize = 2;
+
+const ONE_WIDTHS: usize = Mitigated::MAX_STEPS;
+
+const FEW_PLACES: usize = 2 * FEW_RESOURCES;
+
+const FEW_WIDTHS: usize = Mitigated::MAX_STEPS * FEW_RESOURCES;
+
+const ALL_CELLS: usize = rules_state::STATE_ROOM;
+
+const ALL_PLACES: usize = 2 * Interval::MAX_RESOURCES;
+
+const ALL_WIDTHS: usize = Mitigated::MAX_STEPS * Interval::MAX_RESOURCES;
 
 // Puts what an interval says of its constraints at an offset, and answers the offset after it.
 fn put_verdicts(
@@ -75,8 +89,8 @@ fn put_verdicts(
     ensures { (out.new ≡ sets out.old at (verdict_text i constraints (verdicts_in verdicts.now))) × ((result ≡ at + length (verdict_text i constraints (verdicts_in verdicts.now))) × (result ≤ at + 49152)) }
 {
     match verdict_page::print_verdicts(out, at, i, constraints, verdicts) {
-        Printed::To(next) => next,
-        Printed::Full => at,
+        Some(next) => next,
+        None => at,
     }
 }
 
@@ -87,8 +101,8 @@ fn put_fresh(out: &mut [u8], at: usize, i: u64, r: usize, state: &[i64], widths:
     ensures widths { widths.new ≡ sets widths.old (most_mitigated_steps * r) (map (width_of (printable i) r) (curve_rows (rows_in state.now) (standing_in state.now).floors r)) }
 {
     match curve_page::print_lines(out, at, i, r, state, widths, Mitigated::MAX_STEPS * r) {
-        Printed::To(next) => next,
-        Printed::Full => at,
+        Some(next) => next,
+        None => at,
     }
 }
 
@@ -107,16 +121,9 @@ fn put_again(
 {
     let first = (48 + i) as u8;
     match line_copies::copy_lines(out, from, at, n, widths, base, first) {
-        Printed::To(next) => next,
-        Printed::Full => at,
+        Some(next) => next,
+        None => at,
     }
-}
-
-// Whether two numbers are the same.
-fn is_same(a: i64, b: i64) -> bool
-    ensures { result ≡ true → a ≡ b }
-{
-    a == b
 }
 
 // Whether the lines of resource r were put at the floor price that it has.
@@ -127,10 +134,10 @@ fn is_shown(state: &[i64], shown: &[i64], places: &[usize], r: usize) -> bool
     if places[2 * r + 1] == 0 {
         return false;
     }
-    if !is_same(shown[2 * r], state[1 + r]) {
+    if shown[2 * r] != state[1 + r] {
         return false;
     }
-    is_same(shown[2 * r + 1], state[1 + Interval::MAX_RESOURCES + r])
+    shown[2 * r + 1] == state[1 + Interval::MAX_RESOURCES + r]
 }
 
 // Puts the lines of the curve of resource r that interval i leaves: as they stand on the page already where its floor price is the same.
@@ -203,12 +210,10 @@ fn put_table(
     let resources = cells::whole_at(state, rules_state::MARKET_FROM) as usize;
     let n = number::at_most(resources, Interval::MAX_RESOURCES);
     let mut p = at;
-    let mut r: usize = 0;
-    while r < n {
+    for r in 0..n {
         let next = put_lines(out, p, i, r, state, shown, places, widths);
         keep_lines(state, r, p, next, shown, places);
         p = next;
-        r += 1;
     }
     p
 }
@@ -311,73 +316,65 @@ fn put_opened(
     )
 }
 
-// The same of a whole text, with room for as many resources as an hour may have.
+// The same of a whole text, with room for so many resources; none where it has more, and then nothing is put.
+fn put_within<const CELLS: usize, const PLACES: usize, const WIDTHS: usize>(
+    text: &[u8],
+    most: usize,
+    out: &mut [u8],
+) -> Option<Ending>
+    requires in_bounds { (655424 ≤ length out.old) × (length text.now ≤ 65536) }
+    requires sizes { (CELLS ≡ rows_from + room_of_row * most) × ((PLACES ≡ 2 * most) × ((WIDTHS ≡ most_mitigated_steps * most) × (most ≤ 64))) }
+    ensures put { IfSome result (λ e. PartsPut text.now out.old out.new e.at e.number e.line) }
+    ensures none { IsNone result → out.new ≡ out.old }
+    ensures all { 64 ≤ most → IsSome result }
+{
+    let mut state = [0i64; CELLS];
+    let opened = reader::opening_of(text, &mut state);
+    if most < opened.resources {
+        return None;
+    }
+    let mut shown = [0i64; PLACES];
+    let mut places = [0usize; PLACES];
+    let mut widths = [0u8; WIDTHS];
+    Some(put_opened(
+        text,
+        opened,
+        &mut state,
+        &mut shown,
+        &mut places,
+        &mut widths,
+        out,
+    ))
+}
+
+// With room for as many resources as an hour may have.
 fn put_many(text: &[u8], out: &mut [u8]) -> Ending
     requires { (655424 ≤ length out.old) × (length text.now ≤ 65536) }
     ensures { PartsPut text.now out.old out.new result.at result.number result.line }
 {
-    let mut state = [0i64; rules_state::STATE_ROOM];
-    let opened = reader::opening_of(text, &mut state);
-    let mut shown = [0i64; 2 * Interval::MAX_RESOURCES];
-    let mut places = [0usize; 2 * Interval::MAX_RESOURCES];
-    let mut widths = [0u8; Mitigated::MAX_STEPS * Interval::MAX_RESOURCES];
-    put_opened(
-        text,
-        opened,
-        &mut state,
-        &mut shown,
-        &mut places,
-        &mut widths,
-        out,
-    )
+    put_within::<ALL_CELLS, ALL_PLACES, ALL_WIDTHS>(text, Interval::MAX_RESOURCES, out).unwrap()
 }
 
-// The same with room for few, where that is enough.
+// With room for few, where that is enough.
 fn put_few(text: &[u8], out: &mut [u8]) -> Ending
     requires { (655424 ≤ length out.old) × (length text.now ≤ 65536) }
     ensures { PartsPut text.now out.old out.new result.at result.number result.line }
 {
-    let mut state = [0i64; FEW_CELLS];
-    let opened = reader::opening_of(text, &mut state);
-    if FEW_RESOURCES < opened.resources {
-        return put_many(text, out);
+    match put_within::<FEW_CELLS, FEW_PLACES, FEW_WIDTHS>(text, FEW_RESOURCES, out) {
+        Some(ending) => ending,
+        None => put_many(text, out),
     }
-    let mut shown = [0i64; 2 * FEW_RESOURCES];
-    let mut places = [0usize; 2 * FEW_RESOURCES];
-    let mut widths = [0u8; Mitigated::MAX_STEPS * FEW_RESOURCES];
-    put_opened(
-        text,
-        opened,
-        &mut state,
-        &mut shown,
-        &mut places,
-        &mut widths,
-        out,
-    )
 }
 
-// The same with room for one.
+// With room for one.
 fn put_one(text: &[u8], out: &mut [u8]) -> Ending
     requires { (655424 ≤ length out.old) × (length text.now ≤ 65536) }
     ensures { PartsPut text.now out.old out.new result.at result.number result.line }
 {
-    let mut state = [0i64; ONE_CELLS];
-    let opened = reader::opening_of(text, &mut state);
-    if 1 < opened.resources {
-        return put_few(text, out);
+    match put_within::<ONE_CELLS, ONE_PLACES, ONE_WIDTHS>(text, 1, out) {
+        Some(ending) => ending,
+        None => put_few(text, out),
     }
-    let mut shown = [0i64; 2];
-    let mut places = [0usize; 2];
-    let mut widths = [0u8; Mitigated::MAX_STEPS];
-    put_opened(
-        text,
-        opened,
-        &mut state,
-        &mut shown,
-        &mut places,
-        &mut widths,
-        out,
-    )
 }
 
 // Puts what the parts of a text print, and answers how that ends.

@@ -1,10 +1,9 @@
 // Curves, costs and a market's list of gas prices, read from lent slices of numbers. The contracts cite the definitions of rules_library.
 #![tactic(auto)]
 
-ghost use Rattle.std.specs.Prelude.{◌≡◌, ◌<◌};
-ghost use Rattle.rules_cost.specs.Costs.{most_points};
+ghost use Rattle.std.specs.Prelude.{◌≡◌};
 ghost use Rattle.rules_library.specs.Gas.{list_by};
-ghost use Rattle.rules_library.specs.Slices.{steps_in, raw_bid, raw_point_at, points_in, costs_in};
+ghost use Rattle.rules_library.specs.Slices.{steps_in, raw_bid, points_in, costs_in};
 
 use rules_cost::{Costs, Point};
 use rules_curve::{Curve, RawCurve, RawStep};
@@ -14,12 +13,11 @@ fn steps_in(s: &[i64]) -> [RawStep; Curve::MAX_STEPS]
     ensures { result ≡ steps_in s.now }
 {
     let mut steps = [RawStep { end: 0, price: 0 }; Curve::MAX_STEPS];
-    let mut i: usize = 0;
-    while i < Curve::MAX_STEPS {
-        let end = cells::cell_at(s, 2 * i);
-        let price = cells::cell_at(s, 2 * i + 1);
-        steps[i] = RawStep { end, price };
-        i += 1;
+    for (i, step) in steps.iter_mut().enumerate() {
+        *step = RawStep {
+            end: cells::cell_at(s, 2 * i),
+            price: cells::cell_at(s, 2 * i + 1),
+        };
     }
     steps
 }
@@ -35,34 +33,18 @@ pub fn curve_in(start: i64, count: usize, s: &[i64]) -> RawCurve
     }
 }
 
-// Point k, of quantity and heat rate of each in turn.
-fn point_at(s: &[i64], k: usize) -> Point
-    requires { k < most_points }
-    ensures { result ≡ raw_point_at s.now k }
-{
-    Point {
-        mw: cells::cell_at(s, 2 * k),
-        heat: cells::cell_at(s, 2 * k + 1),
-    }
-}
-
-// Eleven points.
+// Eleven points, from quantity and heat rate of each in turn.
 fn points_in(s: &[i64]) -> [Point; Costs::MAX_POINTS]
     ensures { result ≡ points_in s.now }
 {
-    [
-        point_at(s, 0),
-        point_at(s, 1),
-        point_at(s, 2),
-        point_at(s, 3),
-        point_at(s, 4),
-        point_at(s, 5),
-        point_at(s, 6),
-        point_at(s, 7),
-        point_at(s, 8),
-        point_at(s, 9),
-        point_at(s, 10),
-    ]
+    let mut points = [Point { mw: 0, heat: 0 }; Costs::MAX_POINTS];
+    for (i, point) in points.iter_mut().enumerate() {
+        *point = Point {
+            mw: cells::cell_at(s, 2 * i),
+            heat: cells::cell_at(s, 2 * i + 1),
+        };
+    }
+    points
 }
 
 // Costs, from their points and from gas, rate, allowance, om, msc, soc and fee.
@@ -89,6 +71,6 @@ pub fn list_of<'a>(day_ahead: &'a [u32], real_time: &'a [u32], market: u32) -> &
     match market {
         0 => day_ahead,
         1 => real_time,
-        _ => &day_ahead[..0],
+        _ => &[],
     }
 }

@@ -10,7 +10,7 @@ ghost use Rattle.rules_pass.specs.Passes.{fresh_quarter};
 use rules_curve::Step;
 use rules_hour::Floor;
 use rules_interval::Interval;
-use rules_mitigation::{FloorPrice, Mitigated};
+use rules_mitigation::Mitigated;
 use rules_opening::Row;
 use rules_pass::Quarter;
 
@@ -21,19 +21,16 @@ pub fn fresh_quarter() -> Quarter
 {
     Quarter {
         passes: 0,
-        floors: [Floor {
-            price: FloorPrice::Uncut,
-        }; Interval::MAX_RESOURCES],
+        floors: [Floor { price: None }; Interval::MAX_RESOURCES],
     }
 }
 
 // The floor price after a cut.
-pub fn cut_floor(floor: Floor, cut: FloorPrice) -> Floor
+pub fn cut_floor(floor: Floor, cut: Option<i64>) -> Floor
     ensures { result ≡ cut_floor cut floor }
 {
-    let price = floor.price;
     Floor {
-        price: mitigation::lowered(price, cut),
+        price: mitigation::lowered(floor.price, cut),
     }
 }
 
@@ -41,10 +38,7 @@ pub fn cut_floor(floor: Floor, cut: FloorPrice) -> Floor
 pub fn row_curve(row: Row, floor: Floor) -> Mitigated
     ensures { result ≡ row_curve row floor }
 {
-    let bid = row.bid;
-    let default = row.default;
-    let price = floor.price;
-    mitigation::mitigated_curve(bid, default, price)
+    mitigation::mitigated_curve(row.bid, row.default, floor.price)
 }
 
 // The curve with no step: that of a resource that an hour doesn't have, and of a refused hour bid.

@@ -1,22 +1,15 @@
 -- Laws of floor prices read from cells. Assumes nothing.
-use Prim.Native.Nat.{ℕ, zero, suc, ◌+◌, ◌≤◌, ◌<◌}
-use mathlib.Core.Path.{◌≡◌, refl}
+use Prim.Native.Nat.{ℕ, ◌+◌, ◌≤◌, ◌<◌}
+use mathlib.Core.Path.{◌≡◌}
 use mathlib.Core.List.{List}
 use native.Mathlib.Omega.{arith}
-use lib.IntN.{ℤ, pos, negsuc}
+use lib.IntN.{ℤ}
 use lib.ListN.{length, get_or, get_or-eq_default}
 use Rattle.rules_number.proofs.OverLaws.{listed_length, listed_at}
-use Rattle.rules_mitigation.specs.declared.FloorPrice.TheVariants.{Cut}
 use Rattle.rules_hour.specs.Hours.{uncut}
 use Rattle.rules_library.specs.Slices.{cell_at}
 use Rattle.rules_state.specs.Layout.{most_resources}
 use Rattle.rules_state.specs.States.{floor_of, floors_in}
-
--- a mark other than 0
-pub cut_mark : (mark price : ℤ) → (mark ≡ pos 0 → ⊥) → floor_of mark price ≡ record { price = Cut price }
-cut_mark (pos zero) price h = absurd (h refl)
-cut_mark (pos (suc n)) price h = refl
-cut_mark (negsuc n) price h = refl
 
 module _ (l : List ℤ) (from : ℕ) where
   pub floors_length : length (floors_in l from) ≡ most_resources

@@ -8,19 +8,13 @@ ghost use Rattle.rules_state.specs.States.{floor_of, floors_in, standing_in, qua
 
 use rules_hour::Floor;
 use rules_interval::Interval;
-use rules_mitigation::FloorPrice;
 
 // A floor price, by its cut mark: 0 is uncut.
 fn floor_of(mark: i64, price: i64) -> Floor
     ensures { result ≡ floor_of mark price }
 {
-    if mark == 0 {
-        return Floor {
-            price: FloorPrice::Uncut,
-        };
-    }
     Floor {
-        price: FloorPrice::Cut(price),
+        price: (mark != 0).then_some(price),
     }
 }
 
@@ -30,9 +24,7 @@ fn floor_from(state: &[i64], from: usize, r: usize) -> Floor
     ensures { result ≡ get_or (floors_in state.now from) r uncut }
 {
     if Interval::MAX_RESOURCES <= r {
-        return Floor {
-            price: FloorPrice::Uncut,
-        };
+        return Floor { price: None };
     }
     let mark = cells::cell_at(state, from + r);
     let price = cells::cell_at(state, from + Interval::MAX_RESOURCES + r);

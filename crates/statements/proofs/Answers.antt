@@ -1,4 +1,5 @@
 -- What is printed and answered, as bytes and numbers: a table's lines, a quoted text's letters, the numbers of findings, 21 of a book, and -1 before any refusal. Assumes nothing.
+use Rattle.std.specs.Prelude.{None, Option, Some}
 use mathlib.Core.List.{List, [], ◌∷◌, ◌++◌, map}
 use mathlib.Core.Logic.{◌⊎◌, ◌↔◌}
 use mathlib.Core.Path.{◌≡◌, refl}
@@ -13,8 +14,6 @@ use Rattle.rules_cost.specs.declared.Costs.{Costs}
 use Rattle.rules_gas.specs.Book.{gas_run, book_refusal, gas_number, gas_value, price_in_use}
 use Rattle.rules_gas.specs.Booked.{list_refusal}
 use Rattle.rules_gas.specs.declared.GasMarket.{GasMarket}
-use Rattle.rules_gas.specs.declared.GasPrice.{GasPrice}
-use Rattle.rules_gas.specs.declared.GasPrice.TheVariants.{Is, Missing}
 use Rattle.rules_gas.proofs.PriceInUse.{gas_number_lem, book_number}
 use Rattle.rules_interval.specs.declared.Interval.{Interval}
 use Rattle.rules_path.specs.Judgements.{verdicts_of}
@@ -55,7 +54,7 @@ pub past_constraints : (m : Market) (v : Interval) (c : ℕ) → v.constraints �
 past_constraints = not_binding_past
 
 -- ---- paper 02, 2.7: "an empty part handed back means 21"
-pub gas_price : (g : GasPrice) → ((gas_number g ≡ 21) ↔ (g ≡ Missing)) × ((gas_number g ≡ 0) ↔ (g ≡ Is (gas_value g)))
+pub gas_price : (g : Option ℕ) → ((gas_number g ≡ 21) ↔ (g ≡ None)) × ((gas_number g ≡ 0) ↔ (g ≡ Some (gas_value g)))
 gas_price = gas_number_lem
 
 pub book : (market : GasMarket) (day : ℕ) (ahead real : List ℕ)

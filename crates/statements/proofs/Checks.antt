@@ -1,4 +1,5 @@
 -- The number of each refusal, and what a check hands back: "A refusal returns its number alone". Assumes nothing.
+use Rattle.std.specs.Prelude.{Err, Ok, Result, ⊤}
 use mathlib.Core.List.{map}
 use mathlib.Core.Path.{◌≡◌, refl, ap, ◌∙◌}
 use Prim.Native.Nat.{ℕ, ◌<◌}
@@ -8,8 +9,6 @@ use Rattle.rules_curve.specs.Refusals.{outcome_number}
 use Rattle.rules_curve.specs.Curves.{curve_of, unless_refused, bid_refusal, default_refusal, checked_bid, checked_default}
 use Rattle.rules_curve.specs.declared.Refusal.{Refusal}
 use Rattle.rules_curve.specs.declared.Refusal.TheVariants as refusal
-use Rattle.rules_curve.specs.declared.Outcome.{Outcome}
-use Rattle.rules_curve.specs.declared.Outcome.TheVariants.{Accepted, Refused}
 use Rattle.rules_curve.specs.declared.Curve.{Curve}
 use Rattle.rules_curve.specs.declared.RawCurve.{RawCurve}
 use Rattle.rules_curve.proofs.RefusalLaws.{outcome_only}
@@ -46,9 +45,9 @@ Number refusal.PartsTogether = 24
 Number refusal.TradingDay = 25
 Number refusal.NothingBinds = 26
 
--- 0 is accepted, and an outcome is what its number says
-pub outcomes : (outcome_number Accepted ≡ 0) × ((r : Refusal) → outcome_number (Refused r) ≡ Number r) × ((a b : Outcome) → outcome_number a ≡ outcome_number b → a ≡ b)
-outcomes = (refl, (λ r. refl), outcome_only)
+-- 0 is accepted, whatever is handed back, and an outcome is what its number says
+pub outcomes : ((T : Type 0) (x : T) → outcome_number (Ok x) ≡ 0) × ((T : Type 0) (r : Refusal) → outcome_number {T = T} (Err r) ≡ Number r) × ((a b : Result ⊤ Refusal) → outcome_number a ≡ outcome_number b → a ≡ b)
+outcomes = ((λ T x. refl), (λ T r. refl), outcome_only)
 
 -- ---- the curve of nothing: start 0 and no steps
 abbrev pub Nothing : Curve

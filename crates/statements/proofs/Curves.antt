@@ -1,4 +1,5 @@
 -- Paper 01, Units, Curve, and Interval and hour: rounding up, the price of a quantity, and the mitigated curve, in full. Assumes nothing.
+use Rattle.std.specs.Prelude.{None, Some, Option}
 use mathlib.Core.Bool.{true}
 use mathlib.Core.List.{List, [], ◌∷◌}
 use mathlib.Core.Logic.{◌⊎◌, inl, inr, ◌↔◌}
@@ -18,13 +19,10 @@ use Rattle.rules_curve.specs.Curves.{price_at, end_of, steps_of, quote}
 use Rattle.rules_curve.specs.Meaning.{Rising, NeverBelow, NeverFalling, Sound, SoundBid}
 use Rattle.rules_curve.specs.declared.Step.{Step}
 use Rattle.rules_curve.specs.declared.Curve.{Curve}
-use Rattle.rules_curve.specs.declared.Quote.TheVariants as answer
 use Rattle.rules_curve.proofs.PriceLaws.{price_here, price_later}
 use Rattle.rules_curve.proofs.QuoteLaws.{quote_inside, quote_before, quote_past}
 use Rattle.rules_mitigation.specs.Mitigation.{capped, lowered, mitigated_steps, mitigated, used_steps}
 use Rattle.rules_mitigation.specs.Meaning.{Apart, Inside, IsMitigated}
-use Rattle.rules_mitigation.specs.declared.FloorPrice.{FloorPrice}
-use Rattle.rules_mitigation.specs.declared.FloorPrice.TheVariants.{Uncut, Cut}
 use Rattle.rules_mitigation.proofs.MitigatedCurve.{mitigated_is, mitigated_only, twenty_suffice, further_cut}
 use native.Mathlib.Nat.{le_trans}
 
@@ -68,8 +66,8 @@ Differ l = (i : ℕ) → suc i < length l → priced l i ≡ priced l (suc i) �
 
 -- ---- the mitigated curve
 -- x is the price that the bid price b and the default price d become: "the smaller of its present price and its cap, the higher of default price and L. Otherwise it stays."
-abbrev pub Becomes : FloorPrice → ℤ → ℤ → ℤ → Type 0
-Becomes floor b d x = (floor ≡ Uncut → x ≡ b) × ((L : ℤ) → floor ≡ Cut L → x ≡ min_z b (max_z d L))
+abbrev pub Becomes : Option ℤ → ℤ → ℤ → ℤ → Type 0
+Becomes floor b d x = (floor ≡ None → x ≡ b) × ((L : ℤ) → floor ≡ Some L → x ≡ min_z b (max_z d L))
 
 -- what 1 to 3 leave of a curve of so many steps at most
 abbrev pub Good : ℕ → Curve → Type 0
@@ -80,7 +78,7 @@ abbrev pub end : Curve → ℕ
 end c = end_of c.start (steps_of c)
 
 -- the curve that starts at p and has the steps l is the bid, each quantity at that price
-abbrev pub Mitigates : FloorPrice → Curve → Curve → ℕ → List Step → Type 0
+abbrev pub Mitigates : Option ℤ → Curve → Curve → ℕ → List Step → Type 0
 Mitigates floor bid default p l =
     (p ≡ bid.start) × (end_of p l ≡ end bid)
     × ((q : ℕ) → bid.start ≤ q → q < end bid → Becomes floor (price_at (steps_of bid) q) (price_at (steps_of default) q) (price_at l q))
@@ -146,18 +144,18 @@ price_of_step p (s ∷ l) r (suc (suc i)) q h k m =
 
 -- it has none before the start and none from the end on
 pub price_or_none : (p : ℕ) (l : List Step) → Rises p l → (q : ℕ)
-    → (q < p → quote p l q ≡ answer.Outside) × (p ≤ q → q < end_of p l → quote p l q ≡ answer.Price (price_at l q)) × (end_of p l ≤ q → quote p l q ≡ answer.Outside)
+    → (q < p → quote p l q ≡ None) × (p ≤ q → q < end_of p l → quote p l q ≡ Some (price_at l q)) × (end_of p l ≤ q → quote p l q ≡ None)
 price_or_none p l r q = (quote_before p l q, quote_inside p l q, quote_past p l q ((rises p l).1 r))
 
-becomes : (floor : FloorPrice) (b d x : ℤ) → (x ≡ capped floor b d) ↔ Becomes floor b d x
+becomes : (floor : Option ℤ) (b d x : ℤ) → (x ≡ capped floor b d) ↔ Becomes floor b d x
 becomes floor b d x =
-    ((λ e. ((λ q. e ∙ ap (λ (f : FloorPrice). capped f b d) q), λ L q. e ∙ ap (λ (f : FloorPrice). capped f b d) q)), back floor)
+    ((λ e. ((λ q. e ∙ ap (λ (f : Option ℤ). capped f b d) q), λ L q. e ∙ ap (λ (f : Option ℤ). capped f b d) q)), back floor)
   where
-    back : (floor : FloorPrice) → Becomes floor b d x → x ≡ capped floor b d
-    back Uncut h = h.0 refl
-    back (Cut L) h = h.1 L refl
+    back : (floor : Option ℤ) → Becomes floor b d x → x ≡ capped floor b d
+    back None h = h.0 refl
+    back (Some L) h = h.1 L refl
 
-pub mitigates : (floor : FloorPrice) (bid default : Curve) (p : ℕ) (l : List Step) → IsMitigated floor bid default p l ↔ Mitigates floor bid default p l
+pub mitigates : (floor : Option ℤ) (bid default : Curve) (p : ℕ) (l : List Step) → IsMitigated floor bid default p l ↔ Mitigates floor bid default p l
 mitigates floor bid default p l = (
   (λ h. (
     h.starts,
@@ -192,7 +190,7 @@ module _ (bid default : Curve) (b : Good 10 bid) (d : Good 11 default) (starts :
   inside = record { begins = starts; ends = ends }
 
   -- it is the only such curve: "Neighbouring steps with one price are merged"
-  pub mitigated_curve : (floor : FloorPrice) (p : ℕ) (l : List Step)
+  pub mitigated_curve : (floor : Option ℤ) (p : ℕ) (l : List Step)
       → ((p ≡ (mitigated floor bid default).start) × (l ≡ used_steps (mitigated floor bid default))) ↔ Mitigates floor bid default p l
   mitigated_curve floor p l =
       let is = mitigated_is floor bid default (sound_bid bid b) (sound_default default d) inside in (
@@ -201,10 +199,10 @@ module _ (bid default : Curve) (b : Good 10 bid) (d : Good 11 default) (starts :
       )
 
   -- "A default curve may so have 11 steps, a mitigated one 20"
-  pub twenty : (floor : FloorPrice) → (mitigated floor bid default).count ≤ 20
+  pub twenty : (floor : Option ℤ) → (mitigated floor bid default).count ≤ 20
   twenty floor = twenty_suffice floor bid default (sound_bid bid b) (sound_default default d) inside
 
   -- "An hour takes an interval and becomes the next hour, so a cut made earlier carries on."
-  pub carries_on : (floor k : FloorPrice) (q : ℕ) → bid.start ≤ q → q < end bid
+  pub carries_on : (floor k : Option ℤ) (q : ℕ) → bid.start ≤ q → q < end bid
       → Becomes k (price_at (mitigated_steps floor bid default) q) (price_at (steps_of default) q) (price_at (mitigated_steps (lowered floor k) bid default) q)
   carries_on floor k q h m = (becomes k _ _ _).0 (further_cut floor k bid default (sound_bid bid b) inside q h m)

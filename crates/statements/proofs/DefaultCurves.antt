@@ -128,10 +128,6 @@ module _ (c : Costs) where
     λ s. record { starts = s.0; among = s.1; parts = λ t l. (said.part_is c (segment t) (edge t) (edge (suc t))).1 (s.2 t l); ends = s.3 },
   )
 
-  edge_same : (k : Curve) (t : ℕ) → edge_of k t ≡ rules.edge_of k t
-  edge_same k zero = refl
-  edge_same k (suc t) = refl
-
   default_is : (k : Curve) → IsDefaultCurve c k ↔ IsDefault c k
   default_is k = (
     (λ d. (d.segment, (steps_are k.count (edge_of k) d.segment).0 d.steps, λ t l. (raised_is (edge_of k) d.segment t (step k t).price).0 (d.prices t l))),

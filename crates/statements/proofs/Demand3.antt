@@ -1,4 +1,5 @@
 -- Demand 3 in full, for every list of interval calls on a freshly opened hour, in the opening's and the intervals' own numbers. Assumes nothing.
+use Rattle.std.specs.Prelude.{None, Some}
 use mathlib.Core.Bool.{cond, ◌&&◌}
 use mathlib.Core.List.Memᴰ
 use mathlib.Core.List.{List, [], ◌∷◌, Memᴰ}
@@ -14,7 +15,6 @@ use Rattle.rules_number.specs.Over.{sum_over}
 use Rattle.rules_curve.proofs.FirstLaws.{exactly}
 use Rattle.rules_curve.specs.Curves.{steps_of, end_of, price_at, quote, curve_of}
 use Rattle.rules_curve.specs.declared.Curve.{Curve}
-use Rattle.rules_curve.specs.declared.Quote.TheVariants as answer
 use Rattle.rules_mitigation.specs.Mitigation.{used_steps}
 use Rattle.rules_mitigation.specs.declared.Mitigated.{Mitigated}
 use Rattle.rules_interval.specs.Intervals.{interval_refusal}
@@ -91,7 +91,7 @@ module _ (o : Opening) (v : Interval) where
   CapOf r q y =
       (C : ℤ) × (price : ℤ) × (d : ℤ) × IsComponent r C × (pos 0 <ℤ get_or v.dispatch r (pos 0)) × (pos 0 <ℤ C)
       × ((get_or v.lmp r (pos 0) *ℤ pos 1000000 -ℤ C) ≤ℤ (price *ℤ pos 1000000)) × (((price -ℤ pos 1) *ℤ pos 1000000) <ℤ (get_or v.lmp r (pos 0) *ℤ pos 1000000 -ℤ C))
-      × (quote (default o r).start (steps_of (default o r)) q ≡ answer.Price d)
+      × (quote (default o r).start (steps_of (default o r)) q ≡ Some d)
       × (y ≡ max_z d (price +ℤ v.parameter))
 
   abbrev pub NoCapOf : ℕ → Type 0
@@ -156,9 +156,9 @@ module _ (o : Opening) (r : ℕ) (A : List Interval) (C : Interval → ℤ) wher
     pub submitted : ℤ
     pub price : ℤ
     pub default_price_lem : ℤ
-    pub before : quote (bid o r).start (steps_of (bid o r)) q ≡ answer.Price submitted
-    pub afterwards : quote after.start (used_steps after) q ≡ answer.Price price
-    pub inside : ((default o r).start ≤ q) × (q < end_of (default o r).start (steps_of (default o r))) × (quote (default o r).start (steps_of (default o r)) q ≡ answer.Price default_price_lem)
+    pub before : quote (bid o r).start (steps_of (bid o r)) q ≡ Some submitted
+    pub afterwards : quote after.start (used_steps after) q ≡ Some price
+    pub inside : ((default o r).start ≤ q) × (q < end_of (default o r).start (steps_of (default o r))) × (quote (default o r).start (steps_of (default o r)) q ≡ Some default_price_lem)
     pub capped : CapsSay q submitted price
 
 -- the curve of resource r where these intervals are accepted
@@ -167,7 +167,7 @@ pub record OwnerSays (o : Opening) (r : ℕ) (A : List Interval) (after : Mitiga
   pub component : (v : Interval) → Memᴰ v A → IsComponent o v r (C v)
   pub prices : (q : ℕ) → (bid o r).start ≤ q → q < end_of (bid o r).start (steps_of (bid o r)) → PriceSays o r A C after q
   -- a quantity outside the default curve has no default price
-  pub no_default : (q : ℕ) → (q < (default o r).start) ⊎ (end_of (default o r).start (steps_of (default o r)) ≤ q) → quote (default o r).start (steps_of (default o r)) q ≡ answer.Outside
+  pub no_default : (q : ℕ) → (q < (default o r).start) ⊎ (end_of (default o r).start (steps_of (default o r)) ≤ q) → quote (default o r).start (steps_of (default o r)) q ≡ None
   -- "this curve starts and ends where its submitted bid does"
   pub starts : after.start ≡ (bid o r).start
   pub ends : end_of after.start (used_steps after) ≡ end_of (bid o r).start (steps_of (bid o r))

@@ -1,4 +1,5 @@
 -- Paper 02, 2.7, in full: the run of a book of gas prices, the price in use, and 21. Assumes nothing.
+use Rattle.std.specs.Prelude.{None, Option, Some}
 use mathlib.Core.List.{List, [], ◌∷◌, ◌++◌}
 use mathlib.Core.Logic.{◌↔◌, ◌⊎◌, inl, inr, ⊎_elim}
 use mathlib.Core.Path.{◌≡◌, refl, sym, ap, subst}
@@ -13,8 +14,6 @@ use Rattle.rules_gas.specs.Book.{run_in, gas_run, last_price, price_in_use}
 use Rattle.rules_gas.specs.Booked.{with_gas, booked_refusal, booked_curve}
 use Rattle.rules_gas.specs.Meaning.{Entry, entries, Book, FailsToRise, IsRun, InUse}
 use Rattle.rules_gas.specs.declared.GasMarket.TheVariants.{DayAhead, RealTime}
-use Rattle.rules_gas.specs.declared.GasPrice.{GasPrice}
-use Rattle.rules_gas.specs.declared.GasPrice.TheVariants.{Is, Missing}
 use Rattle.rules_gas.proofs.CostAfterBook.{cost_after_book, no_curve_lem, priced_as}
 use Rattle.rules_gas.proofs.GasRun.{run_is, run_only, empty_exactly, later_entries_unused}
 use Rattle.rules_gas.proofs.PriceInUse.{last_none, price_exactly, from_its_day}
@@ -127,18 +126,18 @@ use_back day l p u =
     }
 
 -- what a book says of a trading day, by the list that is chosen: the run handed back, the price in use, and refusal and curve of costs at that price
-pub record BookSays (day : ℕ) (l run : List ℕ) (price : GasPrice) (refusal : Costs → ℕ) (curve : Costs → Curve) : Type 0 where
+pub record BookSays (day : ℕ) (l run : List ℕ) (price : Option ℕ) (refusal : Costs → ℕ) (curve : Costs → Curve) : Type 0 where
   -- "the book hands back the run of entries up to that day"
   pub handed_back : IsBook l → (x : List ℕ) → (x ≡ run) ↔ Run day l x
   -- "The last entry of the run is the price in use, so an unpublished day takes the latest before it"
-  pub in_use : IsBook l → (p : ℕ) → (price ≡ Is p) ↔ InUseOn day l p
+  pub in_use : IsBook l → (p : ℕ) → (price ≡ Some p) ↔ InUseOn day l p
   -- "21, the chosen list ends inside a pair, its days fail to rise somewhere in it, later days included, or the run is empty .. an empty part handed back means 21"
   pub twenty_one : (run ≡ []) ↔ ((length l % 2 ≡ 1) ⊎ (Falls l ⊎ ((i : ℕ) → i < Count l → day < Day l i)))
   -- "found before any cost check": whatever the costs
   pub before_costs : (c : Costs) → (refusal c ≡ 21) ↔ (run ≡ [])
   pub no_curve_lem : (c : Costs) → run ≡ [] → curve c ≡ blank_curve
   -- else the default curve of the costs with that gas price, and their refusals
-  pub at_price : (c : Costs) (p : ℕ) → price ≡ Is p → (refusal c ≡ cost_refusal (with_gas c p)) × (curve c ≡ unless_refused (cost_refusal (with_gas c p)) (cost_curve (with_gas c p)))
+  pub at_price : (c : Costs) (p : ℕ) → price ≡ Some p → (refusal c ≡ cost_refusal (with_gas c p)) × (curve c ≡ unless_refused (cost_refusal (with_gas c p)) (cost_curve (with_gas c p)))
   -- every other number of the costs stays, and the gas price that stood there isn't looked at
   pub gas_price : (c : Costs) (p : ℕ) → with_gas c p ≡ record {
     count = c.count;
@@ -152,9 +151,9 @@ pub record BookSays (day : ℕ) (l run : List ℕ) (price : GasPrice) (refusal :
     fee = c.fee;
   }
   -- no price exactly where the run is empty
-  pub no_price : (price ≡ Missing) ↔ (run ≡ [])
+  pub no_price : (price ≡ None) ↔ (run ≡ [])
   -- on other days: an entry's price is in use from its day on until the day before the next entry's
-  pub from_its_day : IsBook l → (i : ℕ) → i < Count l → Day l i ≤ day → (suc i < Count l → day < Day l (suc i)) → price ≡ Is (Price l i)
+  pub from_its_day : IsBook l → (i : ℕ) → i < Count l → Day l i ≤ day → (suc i < Count l → day < Day l (suc i)) → price ≡ Some (Price l i)
 
 gas_is : (c : Costs) (p : ℕ) → with_gas c p ≡ record {
   count = c.count;
@@ -184,10 +183,10 @@ module _ (day : ℕ) (l : List ℕ) where
     λ r. run_only day l x (book l b) (run_back day l x r),
   )
 
-  used : IsBook l → (p : ℕ) → (last_price (run_in day l) ≡ Is p) ↔ InUseOn day l p
+  used : IsBook l → (p : ℕ) → (last_price (run_in day l) ≡ Some p) ↔ InUseOn day l p
   used b p = let e = price_exactly day l (book l b) p in ((λ h. use_told day l p (e.0 h)), λ u. e.1 (use_back day l p u))
 
-  in_use_from : IsBook l → (i : ℕ) → i < Count l → Day l i ≤ day → (suc i < Count l → day < Day l (suc i)) → last_price (run_in day l) ≡ Is (Price l i)
+  in_use_from : IsBook l → (i : ℕ) → i < Count l → Day l i ≤ day → (suc i < Count l → day < Day l (suc i)) → last_price (run_in day l) ≡ Some (Price l i)
   in_use_from b i h up next =
       (price_exactly day l (book l b) (Price l i)).1
       (subst (λ (e : Entry). InUse day (entries l) e.price) (day_is l i)

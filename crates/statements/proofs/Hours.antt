@@ -1,4 +1,5 @@
 -- Paper 01, Interval and hour: what one call more on a freshly opened hour says, does and hands back, whatever the calls before it, in full. Assumes nothing.
+use Rattle.std.specs.Prelude.{None, Option}
 use mathlib.Core.List.{List, [], ◌∷◌, ◌++◌}
 use mathlib.Core.Logic.{◌⊎◌, ◌↔◌}
 use mathlib.Core.Path.{◌≡◌, sym, ap, subst, ◌∙◌}
@@ -10,8 +11,6 @@ use Rattle.rules_number.specs.Order.{min_z, max_z}
 use Rattle.rules_curve.specs.Curves.{steps_of, end_of, price_at}
 use Rattle.rules_curve.specs.declared.Step.{Step}
 use Rattle.rules_mitigation.specs.Mitigation.{used_steps}
-use Rattle.rules_mitigation.specs.declared.FloorPrice.{FloorPrice}
-use Rattle.rules_mitigation.specs.declared.FloorPrice.TheVariants.{Uncut}
 use Rattle.rules_mitigation.specs.declared.Mitigated.{Mitigated}
 use Rattle.rules_interval.specs.Intervals.{interval_refusal}
 use Rattle.rules_interval.specs.declared.Interval.{Interval}
@@ -76,12 +75,12 @@ pub record CallCuts (o : Opening) (calls : List Interval) (v : Interval) (r q : 
   pub stays : (C : ℤ) → IsComponent o v r C → (get_or v.dispatch r (pos 0) ≤ℤ pos 0) ⊎ (C ≤ℤ pos 0) → price_of o (calls ++ (v ∷ [])) r q ≡ price_of o calls r q
 
 -- the curve c of a resource: the one mitigated curve of its bid, with the floor price k
-pub record CurveSays (o : Opening) (r : ℕ) (k : FloorPrice) (c : Mitigated) : Type 0 where
+pub record CurveSays (o : Opening) (r : ℕ) (k : Option ℤ) (c : Mitigated) : Type 0 where
   pub only : (p : ℕ) (l : List Step) → ((p ≡ c.start) × (l ≡ used_steps c)) ↔ Mitigates k (bid o r) (default o r) p l
   pub twenty : c.count ≤ 20
 
 -- ---- from the theorems
-curve_says : (o : Opening) (r : ℕ) (k : FloorPrice) (c : Mitigated) → Shape o r k c → CurveSays o r k c
+curve_says : (o : Opening) (r : ℕ) (k : Option ℤ) (c : Mitigated) → Shape o r k c → CurveSays o r k c
 curve_says o r k c h = record {
   only = λ p l. (
     (λ e. (mitigates k (bid o r) (default o r) p l).0 (rw (e.0, e.1) h.is)),
@@ -131,5 +130,5 @@ module _ (o : Opening) (opened : opening_refusal o ≡ 0) where
     pub curve_after_lem : (calls : List Interval) → CurveSays o r (floor_in (hour_at o calls) r).price (curve_in (hour_at o calls) r)
     curve_after_lem calls = curve_says o r _ _ (shape o r opened l calls)
 
-    pub curve_opened : CurveSays o r Uncut (curve_in (opened_hour o) r)
+    pub curve_opened : CurveSays o r None (curve_in (opened_hour o) r)
     curve_opened = curve_says o r _ _ (opened_shape o r opened l)

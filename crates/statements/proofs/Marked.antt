@@ -1,4 +1,5 @@
 -- Paper 01, Marked for proof: P1 to P10, with their data and their numbers. Assumes nothing.
+use Rattle.std.specs.Prelude.{None, Some}
 use mathlib.Core.Bool.{true, false}
 use mathlib.Core.List.{List, [], ◌∷◌}
 use mathlib.Core.Path.{◌≡◌}
@@ -11,7 +12,6 @@ use Rattle.rules_curve.specs.declared.Step.{Step}
 use Rattle.rules_curve.specs.declared.RawStep.{RawStep}
 use Rattle.rules_curve.specs.declared.RawCurve.{RawCurve}
 use Rattle.rules_mitigation.specs.Mitigation.{capped, lowered, used_steps}
-use Rattle.rules_mitigation.specs.declared.FloorPrice.TheVariants.{Uncut, Cut}
 use Rattle.rules_cost.specs.Costs.{count_of_steps, end_at, is_limited, rate_at, cost_curve, cost_refusal}
 use Rattle.rules_cost.specs.declared.Point.{Point}
 use Rattle.rules_cost.specs.declared.Costs.{Costs}
@@ -142,17 +142,17 @@ pub p6 : (left (path (5 ∷ []) 0) ≡ 5) × ((verdict_of (path (5 ∷ []) 0)).f
 p6 = (marked.p6_left, marked.p6_competitive, marked.p6_not)
 
 -- "P7 C = 1: L = lmp + parameter; C = 0: no cut."
-pub p7 : (lmp parameter : ℤ) → (cut_from (pos 1) lmp (pos 1) parameter ≡ Cut (lmp +ℤ parameter)) × (cut_from (pos 1) lmp (pos 0) parameter ≡ Uncut)
+pub p7 : (lmp parameter : ℤ) → (cut_from (pos 1) lmp (pos 1) parameter ≡ Some (lmp +ℤ parameter)) × (cut_from (pos 1) lmp (pos 0) parameter ≡ None)
 p7 lmp parameter = (marked.p7_cut lmp parameter, marked.p7_none lmp parameter)
 
 -- "P8 bid 300000, default 378402, L 350100: stays 300000.", and so in T's hour
-pub p8 : (capped (Cut (pos 350100)) (pos 300000) (pos 378402) ≡ pos 300000) × (price_at (curve_t (interval_with 600000 ∷ [])) 10000 ≡ pos 300000)
+pub p8 : (capped (Some (pos 350100)) (pos 300000) (pos 378402) ≡ pos 300000) × (price_at (curve_t (interval_with 600000 ∷ [])) 10000 ≡ pos 300000)
 unfolding padded
 p8 = (marked.p8, marked.p8_hour)
 
 -- "P9 bid 900000, default 378402, L 500000 then 350100: 500000, then 378402.", and so in T's hour
-pub p9 : (capped (lowered Uncut (Cut (pos 500000))) (pos 900000) (pos 378402) ≡ pos 500000)
-    × (capped (lowered (lowered Uncut (Cut (pos 500000))) (Cut (pos 350100))) (pos 900000) (pos 378402) ≡ pos 378402)
+pub p9 : (capped (lowered None (Some (pos 500000))) (pos 900000) (pos 378402) ≡ pos 500000)
+    × (capped (lowered (lowered None (Some (pos 500000))) (Some (pos 350100))) (pos 900000) (pos 378402) ≡ pos 378402)
     × (price_at (curve_t (interval_with 749900 ∷ [])) 15000 ≡ pos 500000)
     × (price_at (curve_t (interval_with 749900 ∷ interval_with 600000 ∷ [])) 15000 ≡ pos 378402)
 unfolding padded

@@ -1,8 +1,8 @@
 -- Paper 02, 2.5 No parameter means zero: what a missing parameter means, and a text with 100 written, which prints as before, in full. Assumes nothing.
+use Rattle.std.specs.Prelude.{Some}
 use mathlib.Core.List.{List, [], ◌∷◌}
 use mathlib.Core.Logic.{◌⊎◌, ◌↔◌}
 use mathlib.Core.Bool.{false}
-use mathlib.Core.Option.{some}
 use mathlib.Core.Path.{◌≡◌}
 use Prim.Native.Nat.{ℕ, suc, ◌+◌, ◌*◌, ◌≤◌}
 use lib.IntN.{ℤ, pos}
@@ -19,7 +19,7 @@ use Rattle.statements.proofs.Told.{and_so}
 use Rattle.statements.proofs.Plain.{Ascii, LineOf, line_is}
 
 -- "Parameter "-" alone is missing", and "Missing now means 0"; any other parameter is the number that is written
-pub parameter : (l : Line) (z : ℤ) → (parameter_of l ≡ some z) ↔ (((l ≡ Ascii "-\n") × (z ≡ pos 0)) ⊎ ((l ≡ LineOf (z ∷ [])) × Twelve z))
+pub parameter : (l : Line) (z : ℤ) → (parameter_of l ≡ Some z) ↔ (((l ≡ Ascii "-\n") × (z ≡ pos 0)) ⊎ ((l ≡ LineOf (z ∷ [])) × Twelve z))
 parameter l z = rw (← line_is (z ∷ [])) (parameter_exactly l z)
 
 -- line i of a text, from 0, is the names of the parameter's table and the next is "-" alone

@@ -1,4 +1,5 @@
 -- An hour in numbers, in full: what every cell of a state means, what each call makes of it, and the papers' sentences on states that were opened and then called. Assumes nothing.
+use Rattle.std.specs.Prelude.{None, Some}
 use mathlib.Core.List.{List, ◌∷◌, map}
 use mathlib.Core.Logic.{◌↔◌, ◌⊎◌, inl, inr}
 use mathlib.Core.Path.{◌≡◌, refl, sym, ap, subst, ◌∙◌}
@@ -16,7 +17,6 @@ use Rattle.rules_curve.specs.declared.Curve.{Curve}
 use Rattle.rules_curve.specs.declared.RawCurve.{RawCurve}
 use Rattle.rules_curve.specs.declared.RawStep.{RawStep}
 use Rattle.rules_cost.specs.Costs.{blank_point}
-use Rattle.rules_mitigation.specs.declared.FloorPrice.TheVariants.{Uncut, Cut}
 use Rattle.rules_mitigation.specs.declared.Mitigated.{Mitigated}
 use Rattle.rules_interval.specs.Intervals.{interval_refusal}
 use Rattle.rules_interval.specs.declared.Interval.{Interval}
@@ -67,12 +67,12 @@ pub record CurveSays (l : List ℤ) (i : ℕ) (c : Curve) : Type 0 where
 pub record CellsSay (l : List ℤ) : Type 0 where
   -- 0: intervals accepted. 1 to 64: the cut mark of each resource, 0 uncut and any other number cut. 65 to 128: its lowest floor price
   pub accepted : (hour_in l).hour.standing.accepted ≡ Whole (at l 0)
-  pub uncut_mark : (r : ℕ) → r < 64 → at l (1 + r) ≡ pos 0 → (get_or (hour_in l).hour.standing.floors r uncut).price ≡ Uncut
-  pub cut_mark : (r : ℕ) → r < 64 → (at l (1 + r) ≡ pos 0 → ⊥) → (get_or (hour_in l).hour.standing.floors r uncut).price ≡ Cut (at l (65 + r))
+  pub uncut_mark : (r : ℕ) → r < 64 → at l (1 + r) ≡ pos 0 → (get_or (hour_in l).hour.standing.floors r uncut).price ≡ None
+  pub cut_mark : (r : ℕ) → r < 64 → (at l (1 + r) ≡ pos 0 → ⊥) → (get_or (hour_in l).hour.standing.floors r uncut).price ≡ Some (at l (65 + r))
   -- 129: passes accepted since the last accepted interval. 130 to 193 and 194 to 257: marks and floor prices of the quarter hour
   pub passes : (hour_in l).quarter.passes ≡ Whole (at l 129)
-  pub pass_uncut : (r : ℕ) → r < 64 → at l (130 + r) ≡ pos 0 → (get_or (hour_in l).quarter.floors r uncut).price ≡ Uncut
-  pub pass_cut : (r : ℕ) → r < 64 → (at l (130 + r) ≡ pos 0 → ⊥) → (get_or (hour_in l).quarter.floors r uncut).price ≡ Cut (at l (194 + r))
+  pub pass_uncut : (r : ℕ) → r < 64 → at l (130 + r) ≡ pos 0 → (get_or (hour_in l).quarter.floors r uncut).price ≡ None
+  pub pass_cut : (r : ℕ) → r < 64 → (at l (130 + r) ≡ pos 0 → ⊥) → (get_or (hour_in l).quarter.floors r uncut).price ≡ Some (at l (194 + r))
   -- 258: resources. 259 to 322: the portfolio of each. 323 to 338: the mark of each portfolio
   pub resources : (hour_in l).hour.market.resources ≡ Whole (at l 258)
   pub portfolio : (r : ℕ) → r < 64 → get_or (hour_in l).hour.market.portfolio r 0 ≡ Whole (at l (259 + r))
@@ -228,14 +228,14 @@ module _ (s verdicts : List ℤ) (v : Interval) where
     -- an interval leaves market and rows alone, and a pass the standing too
     pub interval_leaves : (k : ℕ) → 258 ≤ k → at (state_after_interval s verdicts v) k ≡ at s k
     -- and of the standing all but the count, and mark and price of each resource that it cuts
-    pub interval_keeps : (r : ℕ) → r < 64 → cut_of (hour_in s).hour.market v r ≡ Uncut
+    pub interval_keeps : (r : ℕ) → r < 64 → cut_of (hour_in s).hour.market v r ≡ None
         → (at (state_after_interval s verdicts v) (1 + r) ≡ at s (1 + r)) × (at (state_after_interval s verdicts v) (65 + r) ≡ at s (65 + r))
     pub pass_number : 3411 ≤ length s → 640 ≤ length verdicts → pass_answer s verdicts v ≡ pos (pass_refusal (hour_in s) v)
     pub pass_hour : 3411 ≤ length s → 640 ≤ length verdicts → hour_in (state_after_pass s verdicts v) ≡ pass_after (hour_in s) v
     pub pass_refused : (pass_answer s verdicts v ≡ pos 0 → ⊥) → state_after_pass s verdicts v ≡ s
     pub pass_short : (length s < 3411) ⊎ (length verdicts < 640) → (pass_answer s verdicts v ≡ negsuc 0) × (state_after_pass s verdicts v ≡ s)
     pub pass_leaves : (k : ℕ) → (k < 129) ⊎ (258 ≤ k) → at (state_after_pass s verdicts v) k ≡ at s k
-    pub pass_keeps : (r : ℕ) → r < 64 → cut_of (hour_in s).hour.market v r ≡ Uncut
+    pub pass_keeps : (r : ℕ) → r < 64 → cut_of (hour_in s).hour.market v r ≡ None
         → (at (state_after_pass s verdicts v) (130 + r) ≡ at s (130 + r)) × (at (state_after_pass s verdicts v) (194 + r) ≡ at s (194 + r))
 
   pub takes_state : TakesState

@@ -1,4 +1,5 @@
 -- What an opened hour holds: each resource has its own bid, its own default curve and its own portfolio, each portfolio its own mark, and nothing is cut yet. Assumes nothing.
+use Rattle.std.specs.Prelude.{None}
 use mathlib.Core.Path.{◌≡◌, refl, ap, ◌∙◌}
 use Prim.Native.Nat.{ℕ, ◌≤◌, ◌<◌}
 use lib.IntN.{pos}
@@ -6,7 +7,6 @@ use lib.ListN.{get_or, replicate}
 use Rattle.rules_number.specs.Over.{padded}
 use Rattle.rules_curve.specs.Curves.{blank_curve, curve_of}
 use Rattle.rules_cost.specs.Costs.{cost_curve}
-use Rattle.rules_mitigation.specs.declared.FloorPrice.TheVariants.{Uncut}
 use Rattle.rules_opening.specs.Openings.{resource_at, opening_refusal}
 use Rattle.rules_opening.specs.declared.Row.{Row}
 use Rattle.rules_opening.specs.declared.Opening.{Opening}
@@ -28,7 +28,7 @@ abbrev NoHour : Hour
 NoHour = record {
   market = record { resources = 0; portfolio = replicate 64 0; seller = replicate 16 0 };
   rows = replicate 64 (record { bid = Nothing; default = Nothing });
-  standing = record { accepted = 0; floors = replicate 64 (record { price = Uncut }) };
+  standing = record { accepted = 0; floors = replicate 64 (record { price = None }) };
 }
 
 pub record OpenedSays (o : Opening) (h : Hour) : Type 0 where
@@ -43,7 +43,7 @@ pub record OpenedSays (o : Opening) (h : Hour) : Type 0 where
   pub from_pack : (r : ℕ) → r < o.resources → (resource o r).source ≡ source.Pack → (row h r).default ≡ curve_of (resource o r).pack
   pub no_row : (r : ℕ) → o.resources ≤ r → ((row h r).bid ≡ Nothing) × ((row h r).default ≡ Nothing)
   pub none_accepted : h.standing.accepted ≡ 0
-  pub none_cut : (r : ℕ) → (get_or h.standing.floors r (record { price = Uncut })).price ≡ Uncut
+  pub none_cut : (r : ℕ) → (get_or h.standing.floors r (record { price = None })).price ≡ None
 
 -- ---- from the theorems
 module _ (o : Opening) where

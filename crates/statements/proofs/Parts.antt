@@ -1,7 +1,7 @@
 -- Paper 01, Text: the text of an opening and of an interval is read as its values, no other text is read, and the line of 17 is the first faulty one. Assumes nothing.
+use Rattle.std.specs.Prelude.{Some}
 use mathlib.Core.List.{List, [], ◌∷◌, ◌++◌, Memᴰ}
 use mathlib.Core.Logic.{◌↔◌}
-use mathlib.Core.Option.{some}
 use mathlib.Core.Path.{◌≡◌}
 use Prim.Native.Nat.{ℕ, zero, suc, ◌+◌, ◌^◌, ◌≤◌, ◌<◌}
 use native.Mathlib.Omega.{arith}
@@ -46,7 +46,7 @@ SmallInterval i =
     × ((x : GivenOutput) → Memᴰ x i.outputs → Twelve x.lmp × Twelve x.dispatch × Twelve x.available × Twelve x.floor)
     × ((f : GivenFactor) → Memᴰ f i.factors → (f.resource < length i.outputs) × (f.constraint < length i.shadows) × Twelve f.factor)
     × Rises i.factors
-    × ((z : ℤ) → i.parameter ≡ some z → Twelve z)
+    × ((z : ℤ) → i.parameter ≡ Some z → Twelve z)
 
 abbrev IntervalIds : GivenInterval → Type 0
 IntervalIds i = (length i.shadows ≤ 10 ^ 12) × (length i.outputs ≤ 10 ^ 12)

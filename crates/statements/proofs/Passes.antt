@@ -1,4 +1,5 @@
 -- Paper 02, 2.1, in full: the hourly and the five-minute price after every list of interval calls and passes on a freshly opened hour. Assumes nothing.
+use Rattle.std.specs.Prelude.{Some}
 use mathlib.Core.List.{List, [], ◌∷◌, ◌++◌, Memᴰ}
 use mathlib.Core.Logic.{◌↔◌, ◌⊎◌, inl, inr, ⊎_elim}
 use mathlib.Core.Path.{◌≡◌, refl, sym, ap, subst, ◌∙◌}
@@ -8,7 +9,6 @@ use lib.ListN.{length, get_or, replicate}
 use lib.Signed.{◌≤ℤ◌, ◌<ℤ◌}
 use Rattle.rules_number.specs.Order.{min_z, max_z}
 use Rattle.rules_curve.specs.Curves.{steps_of, end_of, price_at, quote}
-use Rattle.rules_curve.specs.declared.Quote.TheVariants as answer
 use Rattle.rules_curve.specs.declared.Step.{Step}
 use Rattle.rules_mitigation.specs.Mitigation.{used_steps}
 use Rattle.rules_mitigation.specs.declared.Mitigated.{Mitigated}
@@ -79,7 +79,7 @@ module _ (o : Opening) (r : ℕ) (I P : List Interval) (hourly fives : Mitigated
     pub C : Interval → ℤ
     pub component : (v : Interval) → Memᴰ v P → IsComponent o v r (C v)
     pub prices : (q : ℕ) → (bid o r).start ≤ q → q < end_of (bid o r).start (steps_of (bid o r))
-        → (before : ℤ) × (price : ℤ) × (quote hourly.start (used_steps hourly) q ≡ answer.Price before) × (quote fives.start (used_steps fives) q ≡ answer.Price price)
+        → (before : ℤ) × (price : ℤ) × (quote hourly.start (used_steps hourly) q ≡ Some before) × (quote fives.start (used_steps fives) q ≡ Some price)
         × CapsSay o r P C q before price
     pub starts : fives.start ≡ (bid o r).start
     pub ends : end_of fives.start (used_steps fives) ≡ end_of (bid o r).start (steps_of (bid o r))

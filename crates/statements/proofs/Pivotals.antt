@@ -1,4 +1,5 @@
 -- Paper 02, 2.11, in full: the fewest net sellers whose full withholding leaves every binding constraint of an interval short; the sets tried; the floor; 26. Assumes nothing.
+use Rattle.std.specs.Prelude.{None, Option, Some}
 use mathlib.Core.Bool.{Bool, true, false, ◌&&◌, cond}
 use mathlib.Core.List.{List}
 use mathlib.Core.Logic.{◌↔◌, ◌⊎◌, inl, inr, ⊎_elim}
@@ -6,6 +7,7 @@ use mathlib.Core.Path.{◌≡◌, refl, sym, ap, ap₂, ◌∙◌, subst}
 use Prim.Native.Nat.{ℕ, zero, suc, min, ◌+◌, ◌-◌, ◌*◌, ◌^◌, ◌≤◌, ◌<◌}
 use native.Mathlib.Omega.{arith}
 use borrow.Author.Tests.{ltb-true, ltb-false, le-leb, lt-leb}
+use Rattle.std.proofs.lemmas.Option.{none-some}
 use lib.Count.{ones}
 use lib.Dec.{eqb, ltb, leb}
 use lib.IntN.{ℤ, pos, negsuc}
@@ -29,8 +31,6 @@ use Rattle.rules_pivotal.specs.Calls.{found_cells, pivotal_answer, found_after}
 use Rattle.rules_pivotal.specs.Meaning.{full_of, Works, Needs}
 use Rattle.rules_pivotal.specs.Pivotals.{net_sellers, works_in, any_binds, pivotal_refusal, pivotal_of}
 use Rattle.rules_pivotal.specs.Searches.{better_of, tried_one, searched_to, searched}
-use Rattle.rules_pivotal.specs.declared.Best.{Best}
-use Rattle.rules_pivotal.specs.declared.Best.TheVariants as best
 use Rattle.rules_pivotal.specs.declared.Found.{Found}
 use Rattle.rules_pivotal.specs.declared.Pivotal.{Pivotal}
 use Rattle.rules_pivotal.proofs.Exactly.{binds_exactly}
@@ -97,10 +97,10 @@ module _ (m : Market) (v : Interval) where
 
   pub record Says (budget : ℕ) (r : Pivotal) : Type 0 where
     -- "If all net sellers together can't, no set of them can, and the result is none, with 0 sets tried and floor 0."
-    pub none : (r ≡ record { best = best.None; tried = 0; floor = 0 }) ↔ (LeavesShort All → ⊥)
+    pub none : (r ≡ record { best = None; tried = 0; floor = 0 }) ↔ (LeavesShort All → ⊥)
     pub no_set : (LeavesShort All → ⊥) → (s : ℕ) → NetSellers s → LeavesShort s → ⊥
     -- "Otherwise that whole set is the first best."
-    pub some : LeavesShort All → (set : ℕ) × (r.best ≡ best.Set set) × SetSays budget set r.tried r.floor
+    pub some : LeavesShort All → (set : ℕ) × (r.best ≡ Some set) × SetSays budget set r.tried r.floor
 
   -- ---- in the rules' words, and back
   all_is : net_sellers m ≡ All
@@ -178,13 +178,6 @@ module _ (m : Market) (v : Interval) where
   pub together : pivotal_refusal m v ≡ 0 → (budget : ℕ) → Says budget (pivotal_of m v budget)
   together accepted budget = said (pivotal_of m v budget) (rules.pivotal_is m v budget accepted)
     where
-      is_set : Best → ℕ
-      is_set best.None = 0
-      is_set (best.Set s) = 1
-
-      no_none : (set : ℕ) → best.None ≡ best.Set set → ⊥
-      no_none set e = let z : ◌≡◌ {A = ℕ} 0 1 = ap is_set e in omega arith
-
       said : (r : Pivotal) → rules.Says m v budget r → Says budget r
       said r (rules.none un all e) = record {
         none = ((λ x w. un (all_works.1 w)), λ w. e);
@@ -192,7 +185,7 @@ module _ (m : Market) (v : Interval) where
         some = λ w. absurd (un (all_works.1 w));
       }
       said r (rules.some w set e t) = record {
-        none = ((λ x un. no_none set (sym (ap (λ (y : Pivotal). y.best) x) ∙ e)), λ un. absurd (un (all_works.0 w)));
+        none = ((λ x un. none-some set (sym (ap (λ (y : Pivotal). y.best) x) ∙ e)), λ un. absurd (un (all_works.0 w)));
         no_set = λ un. absurd (un (all_works.0 w));
         some = λ x. (set, e, set_says budget set r.tried r.floor t);
       }
@@ -204,7 +197,7 @@ module _ (m : Market) (v : Interval) where
     pub taken : (pivotal_refusal m v ≡ 0) ↔ ((interval_refusal m.resources v ≡ 0) × ((c : ℕ) × Binding c))
     pub twelve : pivotal_refusal m v ≡ 12 → ⊥
     -- a refusal returns its number alone
-    pub alone : (budget : ℕ) → 0 < pivotal_refusal m v → pivotal_of m v budget ≡ record { best = best.None; tried = 0; floor = 0 }
+    pub alone : (budget : ℕ) → 0 < pivotal_refusal m v → pivotal_of m v budget ≡ record { best = None; tried = 0; floor = 0 }
 
   pub refusals : RefusalSays
   unfolding pivotal_refusal interval_refusal
@@ -241,10 +234,10 @@ module _ (m : Market) (v : Interval) where
       never_twelve true true true true true x = omega (arith, x)
 
   -- "More budget never gives a best with more members."
-  pub more_budget : (budget more : ℕ) → budget ≤ more → (s t : ℕ) → (pivotal_of m v budget).best ≡ best.Set s → (pivotal_of m v more).best ≡ best.Set t → ones t ≤ ones s
+  pub more_budget : (budget more : ℕ) → budget ≤ more → (s t : ℕ) → (pivotal_of m v budget).best ≡ Some s → (pivotal_of m v more).best ≡ Some t → ones t ≤ ones s
   more_budget budget more h s t e f =
       let k = rules.more_never_worse m v budget more h in
-      omega (arith, subst (λ (b : Best). rules.members_of b ≤ rules.members_of (pivotal_of m v budget).best) f k, ap rules.members_of e)
+      omega (arith, subst (λ (b : Option ℕ). rules.members_of b ≤ rules.members_of (pivotal_of m v budget).best) f k, ap rules.members_of e)
 
   -- sets tried are "bounded by budget", whatever the result
   pub within_budget : (budget : ℕ) → (pivotal_of m v budget).tried ≤ budget
@@ -253,9 +246,9 @@ module _ (m : Market) (v : Interval) where
 -- ---- the call in numbers, on a state and a slice for what is found: of the hour it reads the market alone
 module _ (state : List ℤ) (found : List ℕ) (v : Interval) (budget : ℕ) where
   -- the number of a best set; none is 0
-  abbrev pub Number : Best → ℕ
-  Number best.None = 0
-  Number (best.Set s) = s
+  abbrev pub Number : Option ℕ → ℕ
+  Number None = 0
+  Number (Some s) = s
 
   abbrev pub Result : Pivotal
   Result = pivotal_of (market_in state) v budget

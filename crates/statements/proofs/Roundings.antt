@@ -1,4 +1,5 @@
 -- Paper 02, 2.14, in full as far as rounding goes: how far it raises a default price that is worked out from costs, split segments included. Assumes nothing.
+use Rattle.std.specs.Prelude.{Some}
 use mathlib.Core.Logic.{◌⊎◌, inl, inr, ⊎_elim, ◌↔◌}
 use mathlib.Core.Path.{◌≡◌}
 use Prim.Native.Nat.{ℕ, suc, ◌*◌, ◌≤◌, ◌<◌}
@@ -9,7 +10,6 @@ use Rattle.rules_number.specs.Order.{max_z}
 use Rattle.rules_number.proofs.Kit.{var, lit, add, mul, le_from, le_by, lt_from, lt_by}
 use Rattle.rules_curve.specs.Curves.{steps_of, quote}
 use Rattle.rules_curve.specs.declared.Curve.{Curve}
-use Rattle.rules_curve.specs.declared.Quote.TheVariants as answer
 use Rattle.rules_cost.specs.Meaning.{IsDefaultCurve}
 use Rattle.rules_cost.specs.Costs.{cost_refusal}
 use Rattle.rules_cost.specs.declared.Costs.{Costs}
@@ -137,7 +137,7 @@ module _ (c : Costs) (e : cost_refusal c ≡ 0) (k : Curve) (d : IsDefault c k) 
   steps_bounded t l x r = bounded_is c (step k t).price x (rounding_bounded c e k curve t l x ((amounts_are t x).1 r))
 
   -- so is that of a quantity, which lies in one of them
-  pub quantities_bounded : (q : ℕ) (price : ℤ) → quote k.start (steps_of k) q ≡ answer.Price price
+  pub quantities_bounded : (q : ℕ) (price : ℤ) → quote k.start (steps_of k) q ≡ Some price
       → (t : ℕ) × (t < k.count) × (edge_of k t ≤ℤ pos q) × (pos q <ℤ edge_of k (suc t)) × ((x : Ratio) → UnroundedRaised c (edge_of k) d.0 t x → Bounded c price x)
   quantities_bounded q price i =
       let b = default_price_bounded c e k curve q price i in

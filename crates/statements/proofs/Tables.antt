@@ -1,9 +1,9 @@
 -- Paper 01, Text: the ten tables, their names lines and columns, and which value each becomes. Assumes nothing.
+use Rattle.std.specs.Prelude.{None, Option, Some}
 use mathlib.Core.Bool.{Bool, true, false, ◌&&◌}
 use mathlib.Core.List.Memᴰ
 use mathlib.Core.List.{List, [], ◌∷◌, ◌++◌, map, Memᴰ}
 use mathlib.Core.Logic.{◌⊎◌, inl, inr, ⊎_elim}
-use mathlib.Core.Option.{Option, none, some}
 use mathlib.Core.Path.{◌≡◌, refl, sym, ap, ap₂, ◌∙◌}
 use Prim.Native.Nat.{ℕ, suc, ◌+◌, ◌*◌, ◌/◌, ◌%◌, ◌<◌}
 use native.Mathlib.Omega.{arith}
@@ -75,7 +75,7 @@ unfolding opening_is padded
 opening_values o = (refl, refl, refl, refl, (_, refl))
 
 -- ---- an interval's four tables: "Parameter "-" alone is missing", and by paper 02, 2.5, "Missing now means 0"
-pub interval_tables : (i : GivenInterval) → (line : Line) → (i.parameter ≡ none → line ≡ Ascii "-\n") → ((z : ℤ) → i.parameter ≡ some z → line ≡ LineOf (z ∷ []))
+pub interval_tables : (i : GivenInterval) → (line : Line) → (i.parameter ≡ None → line ≡ Ascii "-\n") → ((z : ℤ) → i.parameter ≡ Some z → line ≡ LineOf (z ∷ []))
     → interval_lines i
     ≡ table (Ascii "constraint shadow\n") (Counted (λ s. s ∷ []) 0 i.shadows)
     ++ (table (Ascii "resource lmp dispatch available floor\n") (Counted (λ x. x.lmp ∷ x.dispatch ∷ x.available ∷ x.floor ∷ []) 0 i.outputs)
@@ -84,9 +84,9 @@ pub interval_tables : (i : GivenInterval) → (line : Line) → (i.parameter ≡
 unfolding interval_lines counted_rows Counted
 interval_tables i line missing there = rw (is i.parameter missing there) (simp lines_are refl)
   where
-    is : (p : Option ℤ) → (p ≡ none → line ≡ Ascii "-\n") → ((z : ℤ) → p ≡ some z → line ≡ LineOf (z ∷ [])) → line ≡ parameter_line p
-    is none m t = m refl
-    is (some z) m t = t z refl ∙ sym (line_is (z ∷ []))
+    is : (p : Option ℤ) → (p ≡ None → line ≡ Ascii "-\n") → ((z : ℤ) → p ≡ Some z → line ≡ LineOf (z ∷ [])) → line ≡ parameter_line p
+    is None m t = m refl
+    is (Some z) m t = t z refl ∙ sym (line_is (z ∷ []))
 
 -- ---- and its values: the factor of resource r and constraint c stands at r × 32 + c, "an absent one is 0"
 pub interval_values : (i : GivenInterval)
@@ -96,8 +96,8 @@ pub interval_values : (i : GivenInterval)
     × ((interval_is i).dispatch ≡ array 64 (pos 0) (map (λ x. x.dispatch) i.outputs))
     × ((interval_is i).available ≡ array 64 (pos 0) (map (λ x. x.available) i.outputs))
     × ((interval_is i).floor ≡ array 64 (pos 0) (map (λ x. x.floor) i.outputs))
-    × (i.parameter ≡ none → (interval_is i).parameter ≡ pos 0)
-    × ((z : ℤ) → i.parameter ≡ some z → (interval_is i).parameter ≡ z)
+    × (i.parameter ≡ None → (interval_is i).parameter ≡ pos 0)
+    × ((z : ℤ) → i.parameter ≡ Some z → (interval_is i).parameter ≡ z)
 unfolding interval_is padded
 interval_values i = (refl, refl, refl, refl, refl, refl, refl, (λ e. ap parameter_is e), λ z e. ap parameter_is e)
 

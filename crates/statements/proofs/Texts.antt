@@ -1,9 +1,9 @@
 -- Paper 01, Text: what is printed is read back, nothing else is read, and which line is faulty, in full. Assumes nothing.
+use Rattle.std.specs.Prelude.{Some}
 use mathlib.Core.Bool.{Bool, true, false, cond}
 use mathlib.Core.List.Memᴰ
 use mathlib.Core.List.{List, [], ◌∷◌, ◌++◌, Memᴰ}
 use mathlib.Core.Logic.{⊎_elim, ◌↔◌}
-use mathlib.Core.Option.{some}
 use mathlib.Core.Path.{◌≡◌, refl, sym, ap, ◌∙◌}
 use Prim.Native.Nat.{ℕ, zero, suc, ◌≤◌, ◌<◌}
 use native.Mathlib.Omega.{arith}
@@ -14,7 +14,6 @@ use lib.ListN.{length, take, drop, get_or}
 use Rattle.rules_number.proofs.OverLaws.{never, both}
 use Rattle.rules_text.specs.Numbers.{Line, lines, is_digit, digit_count, number, row}
 use Rattle.rules_text.specs.Spelled.{Every, no_more, and_all, together}
-use Rattle.rules_text.specs.declared.Number.TheVariants.{Is}
 use Rattle.rules_text.proofs.NameLaws.{is_line}
 use Rattle.rules_text.proofs.NumberLaws.{digit_yes}
 use Rattle.rules_text.proofs.ClosedLines.{lines_together, together_lines, no_ten, left, split}
@@ -57,22 +56,22 @@ no_digit zero (b ∷ t) = ((λ e low high. let d = digit_yes b low high in let n
     back false e h = refl
 
 -- a text begins with a number of k bytes exactly when it begins with the bytes that print it, which are k, and no digit follows them
-pub number_read : (t : List ℕ) (z : ℤ) (k : ℕ) → (number t ≡ Is z k) ↔ ((take k t ≡ Decimal z) × (k ≡ length (Decimal z)) × Twelve z × NoDigit t k)
+pub number_read : (t : List ℕ) (z : ℤ) (k : ℕ) → (number t ≡ Some (z, k)) ↔ ((take k t ≡ Decimal z) × (k ≡ length (Decimal z)) × Twelve z × NoDigit t k)
 number_read t z k = rw (← decimal_is z) (and_so (number_iff t z k) (
   (λ b. (b.is, b.count, b.small, (no_digit k t).0 b.stop)),
   λ b. record { is = b.0; count = b.1; small = b.2; stop = (no_digit k t).1 b.3 },
 ))
 
 -- a line is read as k values exactly when it is the line that prints them
-pub line_read : (k : ℕ) (l : List ℕ) (xs : List ℤ) → (row k l ≡ some xs) ↔ ((length xs ≡ k) × (l ≡ LineOf xs) × ((z : ℤ) → Memᴰ z xs → Twelve z))
+pub line_read : (k : ℕ) (l : List ℕ) (xs : List ℤ) → (row k l ≡ Some xs) ↔ ((length xs ≡ k) × (l ≡ LineOf xs) × ((z : ℤ) → Memᴰ z xs → Twelve z))
 line_read k l xs =
     rw (← line_is xs) (and_so (row_iff k l xs) ((λ s. (s.count, s.is, (twelve xs).0 s.small)), λ s. record { count = s.0; is = s.1; small = (twelve xs).1 s.2 }))
 
 -- so what is printed, of numbers that have at most 12 digits, is read back as itself
-pub number_again : (z : ℤ) (r : List ℕ) → Twelve z → NoDigit r 0 → number (Decimal z ++ r) ≡ Is z (length (Decimal z))
+pub number_again : (z : ℤ) (r : List ℕ) → Twelve z → NoDigit r 0 → number (Decimal z ++ r) ≡ Some (z, length (Decimal z))
 number_again z r small stop = rw (← decimal_is z) (number_back z r small ((no_digit 0 r).1 stop))
 
-pub line_again : (xs : List ℤ) → ((i : ℕ) → i < length xs → Twelve (get_or xs i (pos 0))) → row (length xs) (LineOf xs) ≡ some xs
+pub line_again : (xs : List ℤ) → ((i : ℕ) → i < length xs → Twelve (get_or xs i (pos 0))) → row (length xs) (LineOf xs) ≡ Some xs
 line_again xs h = rw (← line_is xs) (row_back xs h)
 
 -- ---- "each line closed by byte 10"

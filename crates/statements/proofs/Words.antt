@@ -1,4 +1,5 @@
 -- Request 2.4: "Compare eight bytes as one number where eight remain, single bytes after that. Which line matches is unaffected", in full. Assumes nothing.
+use Rattle.std.specs.Prelude.{None, Some}
 use mathlib.Core.Bool.{Bool, true, false, cond}
 use mathlib.Core.List.{List, [], ◌∷◌}
 use mathlib.Core.Logic.{◌↔◌, ⊎_elim}
@@ -6,12 +7,12 @@ use mathlib.Core.Path.{◌≡◌, refl, sym, ap, ◌∙◌}
 use Prim.Native.Nat.{ℕ, ◌+◌, ◌*◌, ◌≤◌, ◌<◌}
 use native.Mathlib.Omega.{arith}
 use borrow.Author.Tests.{eq-eqb}
+use Rattle.std.proofs.lemmas.Option.{cond_some}
 use lib.ListN.{length, take, drop, get_or, get_or-eq_default}
 use Rattle.rules_number.proofs.OverLaws.{le_or_lt}
 use Rattle.rules_text.specs.Numbers.{same}
 use Rattle.rules_text.specs.Offsets.{names_at}
 use Rattle.rules_text.specs.Words.{word_in}
-use Rattle.rules_text.specs.declared.Found.TheVariants.{At, Nothing}
 use Rattle.rules_text.proofs.NameLaws.{same_eq}
 use Rattle.rules_text.proofs.WordLaws as words
 
@@ -37,13 +38,12 @@ same_self [] = refl
 same_self (a ∷ l) = ap (λ (d : Bool). cond d (same l l) false) (eq-eqb a a refl) ∙ same_self l
 
 -- "Which line matches": a names line w stands at an offset of a text exactly when the text's bytes from there on are its bytes, and q is the offset after them
-pub line_matches : (s : List ℕ) (at : ℕ) (w : List ℕ) (q : ℕ) → (names_at s at w ≡ At q) ↔ ((take (length w) (drop at s) ≡ w) × (q ≡ at + length w))
+pub line_matches : (s : List ℕ) (at : ℕ) (w : List ℕ) (q : ℕ) → (names_at s at w ≡ Some q) ↔ ((take (length w) (drop at s) ≡ w) × (q ≡ at + length w))
 unfolding names_at
-line_matches s at w q = (there (same w (take (length w) (drop at s))) refl, back)
+line_matches s at w q = (there, back)
   where
-    there : (d : Bool) → same w (take (length w) (drop at s)) ≡ d → cond d (At (at + length w)) Nothing ≡ At q → (take (length w) (drop at s) ≡ w) × (q ≡ at + length w)
-    there true e h = let n : at + length w ≡ q = cc in (sym (same_eq w (take (length w) (drop at s)) e), sym n)
-    there false e h = let z : ◌≡◌ {A = ℕ} 0 1 = cc in absurd (omega arith)
+    there : cond (same w (take (length w) (drop at s))) (Some (at + length w)) None ≡ Some q → (take (length w) (drop at s) ≡ w) × (q ≡ at + length w)
+    there h = let c = cond_some (same w (take (length w) (drop at s))) (at + length w) q h in (sym (same_eq w (take (length w) (drop at s)) c.0), sym c.1)
 
-    back : (take (length w) (drop at s) ≡ w) × (q ≡ at + length w) → cond (same w (take (length w) (drop at s))) (At (at + length w)) Nothing ≡ At q
-    back h = rw (h.0, same_self w) (ap At (sym h.1))
+    back : (take (length w) (drop at s) ≡ w) × (q ≡ at + length w) → cond (same w (take (length w) (drop at s))) (Some (at + length w)) None ≡ Some q
+    back h = rw (h.0, same_self w) (ap Some (sym h.1))

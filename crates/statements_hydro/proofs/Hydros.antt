@@ -1,4 +1,5 @@
 -- Paper 02, 2.8, in full: the hydro default, 22, and a hydro unit in an hour. Assumes nothing.
+use Rattle.std.specs.Prelude.{Ok, Err}
 use mathlib.Core.List.{List, [], ◌∷◌}
 use mathlib.Core.Logic.{◌⊎◌, inl, inr, ◌↔◌}
 use mathlib.Core.Path.{◌≡◌, refl, sym, ap, subst}
@@ -13,11 +14,12 @@ use Rattle.rules_curve.specs.Demands.{First}
 use Rattle.rules_curve.specs.Refusals.{number_of}
 use Rattle.rules_curve.specs.declared.RawStep.{RawStep}
 use Rattle.rules_curve.specs.declared.Refusal.{Refusal}
+use Rattle.rules_curve.specs.declared.RawCurve.{RawCurve}
 use Rattle.rules_hydro.specs.Conditions.{Limited, Quantities}
 use Rattle.rules_hydro.specs.Hydros.{one_step, hydro_price, hydro_curve, hydro_refusal, hydro_in, hydro_number, hydro_pack}
 use Rattle.rules_hydro.specs.Meaning.{AtHub, Priced, SameRead}
 use Rattle.rules_hydro.specs.declared.Hydro.{Hydro}
-use Rattle.rules_hydro.specs.declared.HydroOutcome.TheVariants.{Accepted, OutsideLimits, Refused}
+use Rattle.rules_hydro.specs.declared.HydroRefusal.TheVariants as why
 use Rattle.rules_hydro.proofs.Exactly.{hydro_exactly}
 use Rattle.rules_hydro.proofs.HydroPrice.{price_exactly, one_step_lem}
 use Rattle.rules_hydro.proofs.Larger.{hydro_more}
@@ -38,8 +40,8 @@ abbrev blank : RawStep
 blank = record { end = pos 0; price = pos 0 }
 
 -- the numbers of an outcome, and what a slice of prices stands for
-pub numbers : (hydro_number Accepted ≡ 0) × (hydro_number OutsideLimits ≡ 22) × ((r : Refusal) → hydro_number (Refused r) ≡ number_of r)
-numbers = (refl, refl, λ r. refl)
+pub numbers : ((x : RawCurve) → hydro_number (Ok x) ≡ 0) × (hydro_number {T = RawCurve} (Err why.OutsideLimits) ≡ 22) × ((r : Refusal) → hydro_number {T = RawCurve} (Err (why.Curve r)) ≡ number_of r)
+numbers = ((λ x. refl), refl, λ r. refl)
 
 pub given : (low high heat gas : ℤ) (hubs horizon : ℕ) (prices : List ℤ)
     → hydro_in low high heat gas hubs horizon prices ≡ record { low = low; high = high; heat = heat; gas = gas; hubs = hubs; horizon = horizon; prices = prices }

@@ -19,9 +19,6 @@ abbrev pub Says : Streamed → List ℕ → List ℕ → List ℕ → Type 0
 Says r text before after =
     (bytes_run r ≤ length text) × ((after ≡ page_after r text before) × ((bytes_handed r ≡ bytes_printed r text) × (IsSmall r → length before < run_room)))
 
-pub unread : (text page : List ℕ) → Says Unread text page page
-unread text page = (omega arith, (refl, (refl, λ x. absurd x)))
-
 module _ (before printed : List ℕ) (e : Ended) where
   by_room : (b : Bool) → leb run_room (length before) ≡ b → ran_to before printed e ≡ cond b (ran.Printed (length printed) e.number e.line) ran.TooSmall
   unfolding ran_to

@@ -1,15 +1,8 @@
 -- What a run of standard input answers, and what it leaves on the lent page.
 use Rattle.std.specs.Prelude.{List, ◌≡◌, ℕ, length, take}
 use Rattle.rules_run.specs.Run.{output, ran_within}
-use Rattle.streams.specs.declared.Input.{Input}
-use Rattle.streams.specs.declared.Input.TheVariants.{Bytes, Failed}
 use Rattle.streams.specs.declared.Streamed.{Streamed}
 use Rattle.streams.specs.declared.Streamed.TheVariants.{Written, Unwritten, Unread, TooSmall}
-
--- how many bytes were read: none that count where a read failed
-abbrev pub bytes_read : Input → ℕ
-bytes_read (Bytes n) = n
-bytes_read Failed = 0
 
 -- how many were run, and how many were handed to standard output
 abbrev pub bytes_run : Streamed → ℕ

@@ -2,19 +2,12 @@
 // contracts cite specs/Streams: what the library's calls move no contract can say, but what was read is what is run, and what it prints is what is handed over.
 #![tactic(auto)]
 
-ghost use Rattle.std.specs.Prelude.{◌≡◌, ◌≤◌, ◌<◌, length};
+ghost use Rattle.std.specs.Prelude.{◌≡◌, ◌≤◌, ◌<◌, length, IfOk};
 ghost use Rattle.rules_run.specs.Run.{run_room};
-ghost use Rattle.streams.specs.Streams.{bytes_read, bytes_run, bytes_handed, bytes_printed, page_after, IsHanded, IsSmall};
+ghost use Rattle.streams.specs.Streams.{bytes_run, bytes_handed, bytes_printed, page_after, IsHanded, IsSmall};
 
 use rules_run::Ran;
-use std::io::Read;
-
-// How many bytes the input has, or that a read failed before its end.
-#[derive(Clone, Copy)]
-enum Input {
-    Bytes(usize),
-    Failed,
-}
+use std::io::{self, Read};
 
 // What came of a run: how many bytes were read, and how many of the page were written; or that these could not be written, that a read failed before the text's end, or
 // that the page has too little room.
@@ -31,21 +24,19 @@ pub const TEXT_ROOM: usize = run::MAX_TEXT + 1;
 
 pub const PAGE_ROOM: usize = run::ROOM;
 
-// Reads until the input ends or there is no more room. A read that fails is not the input's end.
-fn read_all<R: Read>(input: &mut R, text: &mut [u8]) -> Input
-    ensures { bytes_read result ≤ length text.new }
+// Reads until the input ends or there is no more room, and answers how many bytes that gave. A read that fails is not the input's end.
+fn read_all<R: Read>(input: &mut R, text: &mut [u8]) -> io::Result<usize>
+    ensures { IfOk result (λ n. n ≤ length text.new) }
 {
     let mut n: usize = 0;
     while n < text.len() {
-        let Ok(more) = input.read(&mut text[n..]) else {
-            return Input::Failed;
-        };
+        let more = input.read(&mut text[n..])?;
         if more == 0 {
-            return Input::Bytes(n);
+            break;
         }
         n += more;
     }
-    Input::Bytes(n)
+    Ok(n)
 }
 
 // Says on standard error what failed; where that fails too, nothing more can be said.
@@ -72,7 +63,7 @@ pub fn mitigate(rt: &HostRuntime, text: &mut [u8], page: &mut [u8]) -> Streamed
     ensures handed { bytes_handed result ≡ bytes_printed result text.new }
     ensures small { IsSmall result → length page.old < run_room }
 {
-    let Input::Bytes(n) = read_all(&mut rt.stdin(), text) else {
+    let Ok(n) = read_all(&mut rt.stdin(), text) else {
         complain(
             rt,
             b"mitigate: standard input could not be read to its end\n",

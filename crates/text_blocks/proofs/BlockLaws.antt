@@ -1,9 +1,9 @@
 -- Laws of tables put block by block by a loop: what is still to be read, put after what is put, is the whole. Assumes nothing.
+use Rattle.std.specs.Prelude.{None, Option, Some}
 use Prim.Native.Nat.{ℕ, suc, ◌+◌, ◌*◌, ◌-◌, ◌≤◌, ◌<◌, min}
 use mathlib.Core.Path.{◌≡◌, refl, sym, ap, ◌∙◌}
 use mathlib.Core.List.{List, [], ◌∷◌}
 use mathlib.Core.Logic.{⊎_elim}
-use mathlib.Core.Option.{Option, none, some}
 use native.Mathlib.Omega.{arith}
 use native.Mathlib.Numerals.{add-one}
 use lib.IntN.{ℤ, pos}
@@ -20,7 +20,7 @@ use Rattle.rules_text.proofs.TableLaws.{row_there, due_none, due_some}
 use Rattle.rules_text.proofs.StageLaws.{run_few}
 use Rattle.rules_state.specs.Layout.{block_room}
 use Rattle.cells.proofs.PutLaws.{sets_out}
-use Rattle.text_blocks.specs.Blocks.{pairs_to, group_cells, charge_cells, blocks_put, read_cells, next_after}
+use Rattle.text_blocks.specs.Blocks.{pairs_to, group_cells, charge_cells, blocks_put}
 
 join : {A B C : Type 0} (r : Reading A) (g : A → B) (h : B → Reader C) → next (next r (λ a. found (g a))) h ≡ next r (λ a. h (g a))
 join (faulty line) g h = refl
@@ -53,15 +53,6 @@ unfolding group_cells
 group_put l values out i g n ev eo en =
     eo ∙ ap (λ (m : List ℤ). set m i n) ev ∙ ap (λ (z : ℤ). set (sets l (i + 1) (pairs_to 11 g)) i z) en
     ∙ set_last l i (i + 1) (pos (length g)) (pairs_to 11 g) (omega arith) ∙ ap (λ (j : ℕ). sets (set l i (pos (length g))) j (pairs_to 11 g)) (add-one i)
-
--- ---- what an answer shows
--- a faulty line after n others
-pub fault_shown : (s : List ℕ) (n : ℕ) (l : List ℤ) (line q : ℕ) → read_cells s (n + 1) l line q ≡ faulty (n + 1)
-fault_shown s n l line q =
-    ap (λ (i : ℕ). read_cells s i l line q) (add-one n) ∙ ap faulty (sym (add-one n))
-
-pub no_next : (n at k : ℕ) (ls : List Line) → 0 ≡ next_after (n + 1) at k ls
-no_next n at k ls = ap (λ (i : ℕ). next_after i at k ls) (sym (add-one n))
 
 -- ---- the charges of a cost line
 -- the first of them are put, and the rest, put after them, gives the whole
@@ -159,11 +150,11 @@ module _ (from : ℕ) where
   unfolding each blocks_put
   each_end r n a ls = refl
 
-  each_none : (m r n : ℕ) (a : List ℤ) (t : List ℕ) → is_one r (line t) ≡ none → Each (suc m) r n a (lines t) ≡ faulty (n + 1)
+  each_none : (m r n : ℕ) (a : List ℤ) (t : List ℕ) → is_one r (line t) ≡ None → Each (suc m) r n a (lines t) ≡ faulty (n + 1)
   unfolding each
   each_none m r n a t e = rw (due_none (is_one r) n t e) refl
 
-  each_turn : (m r n : ℕ) (a : List ℤ) (t : List ℕ) (x : Row) → is_one r (line t) ≡ some x
+  each_turn : (m r n : ℕ) (a : List ℤ) (t : List ℕ) (x : Row) → is_one r (line t) ≡ Some x
       → Each (suc m) r n a (lines t) ≡ Each m (suc r) (n + 1) (sets a (block_room * r + from) (charge_cells x)) (lines (after t))
   unfolding each blocks_put
   each_turn m r n a t x e =
@@ -189,12 +180,12 @@ module _ (from : ℕ) where
         sym (each_end r n a (lines t)) ∙ ap (λ (k : ℕ). Each k r n a (lines t)) (sym z) ∙ h.whole
 
     module _ (here : r < m) where
-      pub pricing_none : is_one r (line t) ≡ none → faulty (n + 1) ≡ W
+      pub pricing_none : is_one r (line t) ≡ None → faulty (n + 1) ≡ W
       pricing_none e =
           let z : m - r ≡ suc (m - (r + 1)) = omega arith in
           sym (each_none (m - (r + 1)) r n a t e) ∙ ap (λ (i : ℕ). Each i r n a (lines t)) (sym z) ∙ h.whole
 
-      pub pricing_turn : (x : Row) → is_one r (line t) ≡ some x → (b : List ℤ) → b ≡ sets a (block_room * r + from) (charge_cells x) → (u : List ℕ) → u ≡ after t
+      pub pricing_turn : (x : Row) → is_one r (line t) ≡ Some x → (b : List ℤ) → b ≡ sets a (block_room * r + from) (charge_cells x) → (u : List ℕ) → u ≡ after t
           → Pricing m (r + 1) (n + 1) b u W limit room
       pricing_turn x e b eb u eu =
           let z : m - r ≡ suc (m - (r + 1)) = omega arith in

@@ -1,5 +1,6 @@
 -- Laws of the last three tables of the part that opens an hour: table after table. Assumes nothing.
-use Prim.Native.Nat.{ℕ, zero, suc, ◌+◌, ◌*◌, ◌-◌, ◌≤◌}
+use Rattle.std.specs.Prelude.{None, Some}
+use Prim.Native.Nat.{ℕ, suc, ◌+◌, ◌*◌, ◌-◌, ◌≤◌}
 use Prim.Native.String.{String}
 use mathlib.Core.Path.{◌≡◌, refl, sym, ap, ◌∙◌}
 use mathlib.Core.List.{List, [], ◌∷◌}
@@ -11,12 +12,11 @@ use lib.Seq.{sets, length-sets}
 use Rattle.rules_text.specs.Numbers.{Line, Row, bytes, lines}
 use Rattle.rules_text.specs.Tables.{Reading, faulty, found, next, headed, grouped, pairs, each}
 use Rattle.rules_text.specs.Offsets.{names_at, bytes_of}
-use Rattle.rules_text.specs.declared.Found.TheVariants.{At, Nothing}
 use Rattle.rules_text.proofs.NameLaws.{is_line, not_headed, past_names}
 use Rattle.rules_text.proofs.StageLaws.{Stage, names_few}
 use Rattle.rules_text.proofs.UsedLaws.{Used, used_names, used_then, Rises, rises_grouped}
 use Rattle.rules_state.specs.Layout.{block_room}
-use Rattle.text_blocks.specs.Blocks.{group_cells, charge_cells, blocks_put, blocks_of, steps_from, points_from, charges_from, last_single, last_two, last_three, read_cells, next_after}
+use Rattle.text_blocks.specs.Blocks.{group_cells, charge_cells, blocks_put, blocks_of, steps_from, points_from, charges_from, last_single, last_two, last_three}
 
 pub blocks_length : {A : Type 0} (f : A → List ℤ) (from r : ℕ) (l : List ℤ) (xs : List A) → length (blocks_put f from r l xs) ≡ length l
 unfolding blocks_put
@@ -39,7 +39,7 @@ pub record Grouped (names : String) (m from : ℕ) (s : List ℕ) (n at : ℕ) (
   pub stage : Stage (headed names (grouped pairs m 0)) s n at gs n' at'
   pub keeps : l' ≡ blocks_put group_cells from 0 l gs
 
-pub group_stage : (names : String) → is_line (bytes names) ≡ true → (m from : ℕ) (s : List ℕ) (n at q : ℕ) → At q ≡ names_at s at (bytes names) → (l l' : List ℤ) (n' at' : ℕ)
+pub group_stage : (names : String) → is_line (bytes names) ≡ true → (m from : ℕ) (s : List ℕ) (n at q : ℕ) → Some q ≡ names_at s at (bytes names) → (l l' : List ℤ) (n' at' : ℕ)
     → found l' n' (lines (drop at' s)) ≡ next (grouped pairs m 0 (n + 1) (lines (drop q s))) (λ gs. found (blocks_put group_cells from 0 l gs))
     → n' + length (lines (drop at' s)) ≤ n + 1 + length (lines (drop q s)) → at' ≡ q + bytes_of (n' - (n + 1)) (lines (drop q s)) → Grouped names m from s n at l l' n' at'
 group_stage names w m from s n at q e l l' n' at' f h o =
@@ -67,13 +67,13 @@ abbrev pub cost_names : String
 cost_names = "resource gas rate allowance om msc soc fee\n"
 
 module _ {X : Type 0} (m : ℕ) (s : List ℕ) (n at : ℕ) where
-  pub unnamed_three : (made : List (List Row) → List (List Row) → List Row → X) → Nothing ≡ names_at s at (bytes step_names) → last_three m made n (lines (drop at s)) ≡ faulty (n + 1)
+  pub unnamed_three : (made : List (List Row) → List (List Row) → List Row → X) → None ≡ names_at s at (bytes step_names) → last_three m made n (lines (drop at s)) ≡ faulty (n + 1)
   unnamed_three made e = ap (λ (r : Reading (List (List Row))). next r (λ steps. last_two m (made steps))) (not_headed step_names (grouped pairs m 0) n s at refl e)
 
-  pub unnamed_two : (made : List (List Row) → List Row → X) → Nothing ≡ names_at s at (bytes point_names) → last_two m made n (lines (drop at s)) ≡ faulty (n + 1)
+  pub unnamed_two : (made : List (List Row) → List Row → X) → None ≡ names_at s at (bytes point_names) → last_two m made n (lines (drop at s)) ≡ faulty (n + 1)
   unnamed_two made e = ap (λ (r : Reading (List (List Row))). next r (λ points. last_single m (made points))) (not_headed point_names (grouped pairs m 0) n s at refl e)
 
-  pub unnamed_one : (made : List Row → X) → Nothing ≡ names_at s at (bytes cost_names) → last_single m made n (lines (drop at s)) ≡ faulty (n + 1)
+  pub unnamed_one : (made : List Row → X) → None ≡ names_at s at (bytes cost_names) → last_single m made n (lines (drop at s)) ≡ faulty (n + 1)
   unnamed_one made e = ap (λ (r : Reading (List Row)). next r (λ costs. found (made costs))) (not_headed cost_names (each 8 m 0) n s at refl e)
 
   pub past_three : (made : List (List Row) → List (List Row) → List Row → X) (gs : List (List Row)) (n' at' : ℕ) → Stage (headed step_names (grouped pairs m 0)) s n at gs n' at'
@@ -84,7 +84,7 @@ module _ {X : Type 0} (m : ℕ) (s : List ℕ) (n at : ℕ) where
       → last_two m made n (lines (drop at s)) ≡ last_single m (made gs) n' (lines (drop at' s))
   past_two made gs n' at' g = ap (λ (r : Reading (List (List Row))). next r (λ points. last_single m (made points))) g.is
 
-  pub past_one : (made : List Row → X) (q : ℕ) → At q ≡ names_at s at (bytes cost_names)
+  pub past_one : (made : List Row → X) (q : ℕ) → Some q ≡ names_at s at (bytes cost_names)
       → last_single m made n (lines (drop at s)) ≡ next (each 8 m 0 (n + 1) (lines (drop q s))) (λ costs. found (made costs))
   past_one made q e = ap (λ (r : Reading (List Row)). next r (λ costs. found (made costs))) (past_names cost_names (each 8 m 0) n s at refl q e)
 
@@ -96,7 +96,6 @@ blocks_last r l one two steps points e f =
     ap (λ (k : List ℤ). next r (λ costs. found (blocks_put charge_cells charges_from 0 k costs))) (f ∙ ap (λ (k : List ℤ). blocks_put group_cells points_from 0 k points) e)
 
 -- the offset after what is read, after lines that are used
-pub read_after : {s : List ℕ} {n at n' at' : ℕ} → Used s n at n' at' → (fault : ℕ) (l : List ℤ) (line q : ℕ) (r : Reading (List ℤ)) → read_cells s fault l line q ≡ r → Rises n' r
-    → q ≡ next_after fault at' (line - n') (lines (drop at' s)) → q ≡ next_after fault at (line - n) (lines (drop at s))
-read_after {s = s} u zero l line q r e h o = (used_then u (record { up = h l line (lines (drop q s)) (sym e); offset = o })).offset
-read_after u (suc fault) l line q r e h o = o
+pub read_after : {s : List ℕ} {n at n' at' : ℕ} → Used s n at n' at' → (l : List ℤ) (line q : ℕ) (r : Reading (List ℤ)) → found l line (lines (drop q s)) ≡ r → Rises n' r
+    → q ≡ at' + bytes_of (line - n') (lines (drop at' s)) → q ≡ at + bytes_of (line - n) (lines (drop at s))
+read_after {s = s} u l line q r e h o = (used_then u (record { up = h l line (lines (drop q s)) (sym e); offset = o })).offset

@@ -1,9 +1,9 @@
 -- Laws of the last three tables: there is one group, and one cost line, for each resource; and what is made of them. Assumes nothing.
+use Rattle.std.specs.Prelude.{None, Option, Some}
 use Prim.Native.Nat.{ℕ, zero, suc, ◌+◌}
 use Prim.Native.String.{String}
 use mathlib.Core.Path.{◌≡◌, refl, sym, ap, ◌∙◌}
 use mathlib.Core.List.{List, [], ◌∷◌}
-use mathlib.Core.Option.{Option, none, some}
 use mathlib.Core.Bool.{Bool, true, false, cond}
 use native.Mathlib.Omega.{arith}
 use lib.ListN.{length, drop}
@@ -44,8 +44,8 @@ long_grouped zero r n ls = long_none (List Row) n ls
 long_grouped (suc m) r n ls = long_cons m (pairs r ls) (grouped pairs m (suc r) (n + length (pairs r ls)) (drop (length (pairs r ls)) ls)) (long_grouped m (suc r) (n + length (pairs r ls)) (drop (length (pairs r ls)) ls))
 
 long_taken : (m r : ℕ) (o : Option Row) (n : ℕ) (ls : List Line) → ((k : ℕ) → Long m (each 8 m (suc r) k ls)) → Long (suc m) (next (taken o n ls) (λ x. each 8 m (suc r) ▷ λ xs. found (x ∷ xs)))
-long_taken m r none n ls h = λ ys k rest e. let z : ◌≡◌ {A = ℕ} 0 1 = cc in absurd (omega arith)
-long_taken m r (some x) n ls h = long_cons m x (each 8 m (suc r) (suc n) ls) (h (suc n))
+long_taken m r None n ls h = λ ys k rest e. let z : ◌≡◌ {A = ℕ} 0 1 = cc in absurd (omega arith)
+long_taken m r (Some x) n ls h = long_cons m x (each 8 m (suc r) (suc n) ls) (h (suc n))
 
 long_each : (m r n : ℕ) (ls : List Line) → Long m (each 8 m r n ls)
 unfolding each due

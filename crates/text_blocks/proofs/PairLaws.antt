@@ -1,32 +1,32 @@
 -- Laws of one resource's lines, put pair by pair by a loop: what is still to be read, put after what is put, is the whole. Assumes nothing.
+use Rattle.std.specs.Prelude.{None, Some}
 use Prim.Native.Nat.{ℕ, zero, suc, ◌+◌, ◌*◌, ◌-◌, ◌≤◌, ◌<◌}
 use mathlib.Core.Path.{◌≡◌, refl, sym, ap, ◌∙◌}
 use mathlib.Core.List.{List, [], ◌∷◌}
 use mathlib.Core.Logic.{⊎_elim}
-use mathlib.Core.Option.{none, some}
 use mathlib.Core.Bool.{Bool, true, false, cond}
 use native.Mathlib.Omega.{arith}
 use borrow.Author.Tests.{lt-ltb, le-ltb}
 use lib.Dec.{ltb}
-use lib.IntN.{ℤ}
-use lib.ListN.{length, drop, set, length-set}
+use lib.IntN.{ℤ, pos}
+use lib.ListN.{length, drop, get_or, set, length-set}
 use lib.Seq.{sets, drop-drop}
 use Rattle.rules_number.proofs.OverLaws.{le_or_lt}
 use Rattle.rules_text.specs.Numbers.{Row, lines, row}
 use Rattle.rules_text.specs.Tables.{cell, has_id, if_suits, run, pairs}
 use Rattle.rules_text.proofs.LineLaws.{line, after, lines_cons, lines_some}
-use Rattle.rules_text.proofs.RowLaws.{HeldThree}
+use Rattle.rules_text.proofs.RowLaws.{Held}
 use Rattle.rules_text.proofs.TableLaws.{row_there}
 use Rattle.rules_text.proofs.UsedLaws.{Used, used_none, used_next}
-use Rattle.rules_text.specs.declared.Three.{Three}
+use Rattle.rules_text.specs.declared.Row as source
 use Rattle.text_blocks.specs.Blocks.{pairs_to}
 
-pairs_none : (r : ℕ) (t : List ℕ) → if_suits (has_id r) (row 3 (line t)) ≡ none → pairs r (lines t) ≡ []
+pairs_none : (r : ℕ) (t : List ℕ) → if_suits (has_id r) (row 3 (line t)) ≡ None → pairs r (lines t) ≡ []
 unfolding pairs run
 pairs_none r [] e = refl
 pairs_none r (b ∷ u) e = rw (lines_cons b u, e) refl
 
-pairs_more : (r : ℕ) (t : List ℕ) (x : Row) → if_suits (has_id r) (row 3 (line t)) ≡ some x → pairs r (lines t) ≡ x ∷ pairs r (lines (after t))
+pairs_more : (r : ℕ) (t : List ℕ) (x : Row) → if_suits (has_id r) (row 3 (line t)) ≡ Some x → pairs r (lines t) ≡ x ∷ pairs r (lines (after t))
 unfolding pairs run
 pairs_more r t x e = rw (lines_some t (row_there (has_id r) 2 x t e), e) refl
 
@@ -88,7 +88,7 @@ module _ (s : List ℕ) (at r : ℕ) (a : List ℤ) (base : ℕ) (b : List ℤ) 
     pub counts : k ≡ length (pairs r (lines (drop at s)))
     pub stores : b ≡ sets a base (pairs_to 11 (pairs r (lines (drop at s))))
 
-  pub pairing_end : if_suits (has_id r) (row 3 (line (drop q s))) ≡ none → Ended
+  pub pairing_end : if_suits (has_id r) (row 3 (line (drop q s))) ≡ None → Ended
   pairing_end e =
       let y = pairs_none r (drop q s) e in
       let z : length (pairs r (lines (drop q s))) ≡ 0 = ap length y in
@@ -104,8 +104,8 @@ module _ (s : List ℕ) (at r : ℕ) (a : List ℤ) (base : ℕ) (b : List ℤ) 
     pub fewer : length (lines (drop p s)) < length (lines (drop q s))
     pub below : k < length (pairs r (lines (drop at s)))
 
-  pub pairing_turn : (x : Three) → HeldThree (q + length (line (drop q s))) (if_suits (has_id r) (row 3 (line (drop q s)))) x
-      → (l : List ℤ) → l ≡ put_pair_at base k b x.second x.third → Turned l x.next
+  pub pairing_turn : (x : source.Row 3) → Held 3 (q + length (line (drop q s))) (if_suits (has_id r) (row 3 (line (drop q s)))) x
+      → (l : List ℤ) → l ≡ put_pair_at base k b (get_or x.v 1 (pos 0)) (get_or x.v 2 (pos 0)) → Turned l x.next
   pairing_turn x t l el =
       let u : drop x.next s ≡ after (drop q s) = ap (λ (n : ℕ). drop n s) t.after ∙ sym (drop-drop (length (line (drop q s))) q s) in
       let y : pairs r (lines (drop q s)) ≡ t.x ∷ pairs r (lines (drop x.next s)) = pairs_more r (drop q s) t.x t.is ∙ ap (λ (w : List ℕ). t.x ∷ pairs r (lines w)) (sym u) in
@@ -113,7 +113,7 @@ module _ (s : List ℕ) (at r : ℕ) (a : List ℤ) (base : ℕ) (b : List ℤ) 
       let yl = ap length y in
       let zl = ap length z in
       let hc = h.counts in
-      let e : l ≡ put_pair_at base k b (cell 1 t.x) (cell 2 t.x) = el ∙ ap (λ (v : ℤ). put_pair_at base k b v x.third) t.second ∙ ap (put_pair_at base k b (cell 1 t.x)) t.third in
+      let e : l ≡ put_pair_at base k b (cell 1 t.x) (cell 2 t.x) = el ∙ ap (λ (v : ℤ). put_pair_at base k b v (get_or x.v 2 (pos 0))) (t.cells 1 (omega arith)) ∙ ap (put_pair_at base k b (cell 1 t.x)) (t.cells 2 (omega arith)) in
       record {
         again = record {
           counts = omega arith;

@@ -1,10 +1,9 @@
 -- The numbers that the tables of a text put into blocks of 80, a block for each resource.
-use Rattle.std.specs.Prelude.{ℕ, zero, suc, ◌+◌, ◌*◌, min, List, [], ◌∷◌, ℤ, pos, length, drop, get_or}
+use Rattle.std.specs.Prelude.{ℕ, zero, suc, ◌+◌, ◌*◌, min, List, [], ◌∷◌, ℤ, pos, length, get_or}
 use Rattle.std.proofs.lemmas.List.Edits.{sets}
 use Rattle.rules_number.specs.Over.{listed}
-use Rattle.rules_text.specs.Numbers.{Line, Row, lines}
-use Rattle.rules_text.specs.Tables.{Reading, Reader, faulty, found, ◌▷◌, headed, cell, grouped, pairs, each}
-use Rattle.rules_text.specs.Offsets.{bytes_of}
+use Rattle.rules_text.specs.Numbers.{Row}
+use Rattle.rules_text.specs.Tables.{Reader, found, ◌▷◌, headed, cell, grouped, pairs, each}
 use Rattle.rules_opening.specs.declared.Opening.{Opening}
 use Rattle.rules_parts.specs.Parts.{resource_of}
 use Rattle.rules_library.specs.Slices.{cell_at}
@@ -71,14 +70,3 @@ opening_with month portfolios sellers m owners steps points costs = record {
   resources = m;
   list = listed (λ r. resource_of (get_or (owner_rows owners (min m 64)) r []) (get_or steps r []) (get_or points r []) (get_or costs r [])) most_resources;
 }
-
--- ---- what the code's answers stand for
--- fault 0: the cells with what is found, up to line `line`, with the next line at offset `next` of the text
-abbrev pub read_cells : List ℕ → ℕ → List ℤ → ℕ → ℕ → Reading (List ℤ)
-read_cells s zero l line next = found l line (lines (drop next s))
-read_cells s (suc fault) l line next = faulty (suc fault)
-
--- fault 0: the offset after the first k of the lines at offset `at`; a faulty line's number comes with 0
-abbrev pub next_after : ℕ → ℕ → ℕ → List Line → ℕ
-next_after zero at k ls = at + bytes_of k ls
-next_after (suc fault) at k ls = 0

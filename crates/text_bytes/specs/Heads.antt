@@ -1,16 +1,14 @@
 -- The id at the head of a line.
-use Rattle.std.specs.Prelude.{ℕ, ◌+◌, List, Bool, cond, ◌&&◌, ltb, leb, length, pos}
+use Rattle.std.specs.Prelude.{ℕ, ◌+◌, List, Bool, cond, ◌&&◌, ltb, leb, length, pos, None, Option, Some, ℤ}
 use Rattle.rules_number.specs.Order.{eq_z}
-use Rattle.rules_text.specs.declared.Number.{Number}
-use Rattle.rules_text.specs.declared.Number.TheVariants.{Is, Not}
 use Rattle.rules_text.specs.Offsets.{number_at, closed_by}
 use Rattle.text_bytes.specs.declared.Head.{Head}
 use Rattle.text_bytes.specs.declared.Head.TheVariants.{Unread, Other, Past}
 
 -- whether the number that a space closes is the id n
-abbrev pub head_of : ℕ → Number → Head
-head_of n Not = Other
-head_of n (Is z q) = cond (eq_z (pos n) z) (Past q) Other
+abbrev pub head_of : ℕ → Option (ℤ × ℕ) → Head
+head_of n None = Other
+head_of n (Some (z, q)) = cond (eq_z (pos n) z) (Past q) Other
 
 -- whether the id n has two digits at most, and k bytes are left of a text after these and a space
 abbrev pub fits : ℕ → ℕ → List ℕ → ℕ → Bool

@@ -1,9 +1,8 @@
 // The bytes of a line beside its numbers: what closes a value, a sign, the id at the line's head (paper 01, Text). The contracts cite specs/Heads and the definitions of rules_text.
 #![tactic(auto)]
 
-ghost use Rattle.std.specs.Prelude.{◌≡◌, cond, ℕ, ◌+◌, ◌*◌, ◌/◌, ◌%◌, ◌<◌, ◌≤◌, eqb, length, pos};
+ghost use Rattle.std.specs.Prelude.{◌≡◌, cond, ℕ, ◌+◌, ◌*◌, ◌/◌, ◌%◌, ◌<◌, ◌≤◌, ◌≢◌, eqb, length, pos, IfSome, IfNone};
 ghost use Rattle.rules_number.specs.Order.{eq_z};
-ghost use Rattle.rules_text.specs.declared.Number.TheVariants.{Is};
 ghost use Rattle.rules_text.specs.Numbers.{closing as Numbers·closing};
 ghost use Rattle.rules_text.specs.Offsets.{number_at, closed_by};
 ghost use Rattle.text_bytes.specs.Heads.{head_on};
@@ -16,23 +15,11 @@ pub enum Head {
     Past(usize),
 }
 
-// What digits spell, and the offset after the byte that closes them; 0 where they are none.
+// What digits spell, and the offset after the byte that closes them.
 #[derive(Clone, Copy)]
 pub struct Closed {
     pub value: u64,
     pub next: usize,
-}
-
-pub fn no_number() -> Closed
-    ensures { (result.value ≡ 0) × (result.next ≡ 0) }
-{
-    Closed { value: 0, next: 0 }
-}
-
-pub fn wide(b: u8) -> u64
-    ensures { result ≡ b }
-{
-    b as u64
 }
 
 // How many bytes the sign takes, where a number begins with b.
@@ -74,26 +61,26 @@ fn room(len: usize, n: usize, k: usize) -> usize
     len - k + 1
 }
 
-// The offset after the id n and a space at an offset, or 0: numbers have no leading zeros, so the bytes tell.
-fn past_head(s: &[u8], at: usize, n: usize) -> usize
+// The offset after the id n and a space at an offset: numbers have no leading zeros, so the bytes tell.
+fn past_head(s: &[u8], at: usize, n: usize) -> Option<usize>
     requires { (n < 100) × (at + 3 ≤ length s.now) }
-    ensures result_value { (result ≡ 0 → ⊥) → Is (pos n) result ≡ closed_by s.now 32 (number_at s.now at) }
-    ensures fact { result ≡ 0 → (q : ℕ) → Is (pos n) q ≡ closed_by s.now 32 (number_at s.now at) → ⊥ }
+    ensures past { IfSome result (λ p. Some (pos n, p) ≡ closed_by s.now 32 (number_at s.now at)) }
+    ensures other { IfNone result ((q : ℕ) → Some (pos n, q) ≢ closed_by s.now 32 (number_at s.now at)) }
 {
-    let word = wide(s[at]) + wide(s[at + 1]) * 256;
+    let word = s[at] as u64 + s[at + 1] as u64 * 256;
     if n < 10 {
         if word != 8240 + n as u64 {
-            return 0;
+            return None;
         }
-        return at + 2;
+        return Some(at + 2);
     }
     if word != 12336 + n as u64 / 10 + n as u64 % 10 * 256 {
-        return 0;
+        return None;
     }
     if s[at + 2] != 32 {
-        return 0;
+        return None;
     }
-    at + 3
+    Some(at + 3)
 }
 
 // The head of the line at an offset, where k bytes are left after the longest id and a space.
@@ -103,9 +90,8 @@ pub fn head_at(s: &[u8], at: usize, n: usize, k: u8) -> Head
     if room(s.len(), n, k as usize + 3) <= at {
         return Head::Unread;
     }
-    let p = past_head(s, at, n);
-    if p == 0 {
+    let Some(p) = past_head(s, at, n) else {
         return Head::Other;
-    }
+    };
     Head::Past(p)
 }

@@ -6,22 +6,13 @@ ghost use Rattle.std.specs.Prelude.{◌≡◌, ◌+◌, ◌≤◌, ◌<◌, leng
 ghost use Rattle.rules_text.specs.Offsets.{names_at};
 ghost use Rattle.text_names.specs.Pairs.{pair_at, four_at, word_at};
 
-use rules_text::Found;
-
-// A byte as a number.
-fn wide(b: u8) -> u64
-    ensures { (result ≡ b) × (result < 256) }
-{
-    b as u64
-}
-
 // The number that two bytes at an offset spell, the first the lower.
 fn two_at(s: &[u8], at: usize) -> u64
     requires { at + 2 ≤ length s.now }
     ensures { (result ≡ pair_at s.now at) × (result < 65536) }
 {
-    let low = wide(s[at]);
-    let high = wide(s[at + 1]);
+    let low = s[at] as u64;
+    let high = s[at + 1] as u64;
     low + high * 256
 }
 
@@ -46,37 +37,36 @@ fn word_at(s: &[u8], at: usize) -> u64
 }
 
 // The offset past the wanted bytes where they stand at an offset, single bytes compared; the text is long enough.
-fn bytes_are(s: &[u8], at: usize, want: &[u8]) -> Found
+fn bytes_are(s: &[u8], at: usize, want: &[u8]) -> Option<usize>
     requires { at + length want.now ≤ length s.now }
     ensures { result ≡ names_at s.now at want.now }
 {
-    let mut i = 0;
-    while i < want.len() {
-        if s[at + i] != want[i] {
-            return Found::Nothing;
+    for (i, b) in want.iter().enumerate() {
+        if s[at + i] != *b {
+            return None;
         }
-        i += 1;
     }
-    Found::At(at + i)
+    Some(at + want.len())
 }
 
 // The offset past the wanted bytes, a names line with its byte 10, where they stand at an offset.
-pub fn line_is(s: &[u8], at: usize, want: &[u8]) -> Found
+pub fn line_is(s: &[u8], at: usize, want: &[u8]) -> Option<usize>
     ensures { result ≡ names_at s.now at want.now }
 {
     if want.len() == 0 {
-        return Found::At(at);
+        return Some(at);
     }
     if s.len() < want.len() {
-        return Found::Nothing;
+        return None;
     }
     if s.len() - want.len() < at {
-        return Found::Nothing;
+        return None;
     }
+    // By index: both slices are read eight bytes at a time.
     let mut i = 0;
     while 8 <= want.len() - i {
         if word_at(s, at + i) != word_at(want, i) {
-            return Found::Nothing;
+            return None;
         }
         i += 8;
     }

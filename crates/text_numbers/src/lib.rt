@@ -5,9 +5,8 @@ ghost use Rattle.std.specs.Prelude.{◌≡◌, ◌+◌, ◌^◌, ◌<◌, ◌≤
 ghost use Rattle.rules_text.specs.Numbers.{digit_count, value, formed, magnitude};
 ghost use Rattle.rules_text.specs.Offsets.{number_at, closed_by};
 
-use rules_text::{Magnitude, Number};
 use std::num::wrapping_sub_u64;
-use text_bytes::{sign_width, wide};
+use text_bytes::sign_width;
 
 // What digits spell, and how many they are.
 #[derive(Clone, Copy)]
@@ -23,16 +22,14 @@ fn digits_in(s: &[u8], at: usize, end: usize) -> Digits
     ensures count_value { result.count ≡ digit_count (take end (drop at s.now)) }
 {
     let mut value: u64 = 0;
-    let mut count = 0;
-    while count < end {
-        let d = wrapping_sub_u64(wide(s[at + count]), 48);
+    for count in 0..end {
+        let d = wrapping_sub_u64(s[at + count] as u64, 48);
         if 9 < d {
             return Digits { value, count };
         }
         value = value * 10 + d;
-        count += 1;
     }
-    Digits { value, count }
+    Digits { value, count: end }
 }
 
 // The digits at an offset, of which it reads at most 13, one more than a number may have.
@@ -68,15 +65,14 @@ fn is_number(s: &[u8], at: usize, count: usize) -> bool
 }
 
 // The digits at an offset as a number.
-fn magnitude_at(s: &[u8], at: usize) -> Magnitude
+fn magnitude_at(s: &[u8], at: usize) -> Option<(u64, usize)>
     ensures { result ≡ magnitude (drop at s.now) }
 {
     let digits = digits_at(s, at);
-    let count = digits.count;
-    if !is_number(s, at, count) {
-        return Magnitude::None;
+    if !is_number(s, at, digits.count) {
+        return None;
     }
-    Magnitude::Spells(digits.value, count)
+    Some((digits.value, digits.count))
 }
 
 fn plus(v: u64) -> i64
@@ -94,25 +90,23 @@ fn minus(v: u64) -> i64
 }
 
 // The number at an offset.
-fn number_at(s: &[u8], at: usize) -> Number
+fn number_at(s: &[u8], at: usize) -> Option<(i64, usize)>
     ensures { result ≡ number_at s.now at }
 {
     if s.len() <= at {
-        return Number::Not;
+        return None;
     }
     let sign = sign_width(s[at]);
     let from = at + sign;
-    let Magnitude::Spells(v, count) = magnitude_at(s, from) else {
-        return Number::Not;
-    };
+    let (v, count) = magnitude_at(s, from)?;
     let next = from + count;
     if sign == 0 {
-        return Number::Is(plus(v), next);
+        return Some((plus(v), next));
     }
     if v == 0 {
-        return Number::Not;
+        return None;
     }
-    Number::Is(minus(v), next)
+    Some((minus(v), next))
 }
 
 // Whether the count digits at an offset are a number that the byte b closes.
@@ -134,55 +128,51 @@ fn byte_at(s: &[u8], at: usize) -> u8
 }
 
 // The number at an offset that the byte b closes, near the text's end, with the offset after that byte.
-fn late_at(s: &[u8], at: usize, b: u8) -> Number
+fn late_at(s: &[u8], at: usize, b: u8) -> Option<(i64, usize)>
     ensures { result ≡ closed_by s.now b (number_at s.now at) }
 {
-    let Number::Is(x, n) = number_at(s, at) else {
-        return Number::Not;
-    };
+    let (x, n) = number_at(s, at)?;
     if byte_at(s, n) != b {
-        return Number::Not;
+        return None;
     }
-    Number::Is(x, n + 1)
+    Some((x, n + 1))
 }
 
 // The same where 14 bytes are left, of which the first is no digit.
-fn negative_at(s: &[u8], at: usize, b: u8) -> Number
+fn negative_at(s: &[u8], at: usize, b: u8) -> Option<(i64, usize)>
     requires { (at + 14 ≤ length s.now) × (digit_count (take 13 (drop at s.now)) ≡ 0) }
     ensures { result ≡ closed_by s.now b (number_at s.now at) }
 {
     if s[at] != 45 {
-        return Number::Not;
+        return None;
     }
     let from = at + 1;
     let digits = digits_in(s, from, 13);
-    let count = digits.count;
-    if !closes(s, from, count, b) {
-        return Number::Not;
+    if !closes(s, from, digits.count, b) {
+        return None;
     }
     if digits.value == 0 {
-        return Number::Not;
+        return None;
     }
-    Number::Is(minus(digits.value), from + count + 1)
+    Some((minus(digits.value), from + digits.count + 1))
 }
 
 // The number at an offset that the byte b closes, with the offset after that byte. Where 14 bytes are left, the length is tested no more.
-pub fn closed_at(s: &[u8], at: usize, b: u8) -> Number
+pub fn closed_at(s: &[u8], at: usize, b: u8) -> Option<(i64, usize)>
     ensures { result ≡ closed_by s.now b (number_at s.now at) }
 {
     if s.len() <= at {
-        return Number::Not;
+        return None;
     }
     if s.len() - at < 14 {
         return late_at(s, at, b);
     }
     let digits = digits_in(s, at, 13);
-    let count = digits.count;
-    if count == 0 {
+    if digits.count == 0 {
         return negative_at(s, at, b);
     }
-    if !closes(s, at, count, b) {
-        return Number::Not;
+    if !closes(s, at, digits.count, b) {
+        return None;
     }
-    Number::Is(plus(digits.value), at + count + 1)
+    Some((plus(digits.value), at + digits.count + 1))
 }

@@ -1,3 +1,2 @@
 -- Laws that the proofs of the code use.
 pub mod StandLaws
-pub mod DueLaws

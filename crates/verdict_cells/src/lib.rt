@@ -13,13 +13,11 @@ use rules_path::{Finding, Market, Verdict};
 fn finding_by(number: i64) -> Finding
     ensures { result ≡ finding_by number }
 {
-    if number == 0 {
-        return Finding::Competitive;
+    match number {
+        0 => Finding::Competitive,
+        1 => Finding::NonCompetitive,
+        _ => Finding::NotBinding,
     }
-    if number == 1 {
-        return Finding::NonCompetitive;
-    }
-    Finding::NotBinding
 }
 
 // A whole number of each portfolio, from a cell on.
@@ -30,10 +28,8 @@ pub fn portfolios_in(numbers: &[i64], at: usize) -> [u64; Market::MAX_PORTFOLIOS
     if numbers.len() <= at {
         return wholes;
     }
-    let mut p: usize = 0;
-    while p < Market::MAX_PORTFOLIOS {
-        wholes[p] = cells::whole_at(numbers, at + p);
-        p += 1;
+    for (p, whole) in wholes.iter_mut().enumerate() {
+        *whole = cells::whole_at(numbers, at + p);
     }
     wholes
 }
@@ -58,10 +54,8 @@ pub fn verdicts_in(numbers: &[i64]) -> [Verdict; Interval::MAX_CONSTRAINTS]
     ensures { result ≡ verdicts_in numbers.now }
 {
     let mut verdicts = [verdict_in(numbers, 0); Interval::MAX_CONSTRAINTS];
-    let mut c: usize = 1;
-    while c < Interval::MAX_CONSTRAINTS {
-        verdicts[c] = verdict_in(numbers, c);
-        c += 1;
+    for (c, verdict) in verdicts.iter_mut().enumerate() {
+        *verdict = verdict_in(numbers, c);
     }
     verdicts
 }

@@ -1,38 +1,27 @@
 -- Laws of the seller that leads, of the bits left, and of the order as it is stored. Assumes nothing.
+use Rattle.std.specs.Prelude.{None, Option, Some, IfSome}
 use Prim.Native.Nat.{ℕ, zero, suc, ◌+◌, ◌-◌, ◌*◌, ◌≤◌, ◌<◌, ◌/◌, ◌%◌, ◌^◌}
-use mathlib.Core.Path.{◌≡◌, refl, sym, ap, ◌∙◌}
+use mathlib.Core.Path.{◌≡◌, refl, sym, ap, subst, ◌∙◌}
 use mathlib.Core.List.{[], ◌∷◌}
-use mathlib.Core.Option.{Option, none, some}
 use mathlib.Core.Bool.{Bool, true, false, cond}
 use mathlib.Core.Logic.{⊎_elim}
-use borrow.Author.Tests.{lt-ltb, le-ltb, eqb-true, eqb-false, eq-eqb}
+use borrow.Author.Tests.{eqb-true, eqb-false, eq-eqb}
 use native.Mathlib.Omega.{arith}
 use native.Mathlib.Nat.{add-div_left, add-zero, add-suc, pow-suc}
 use native.Mathlib.Numerals.{add-one}
 use lib.Count.{ones, count_trailing_zeros, under}
-use lib.Dec.{ltb, eqb}
+use lib.Dec.{eqb}
 use lib.Pow.{pow_pos, pow_mono, shr-shr, field, mod-mod-pow}
 use Rattle.rules_number.proofs.OverLaws.{le_or_lt}
 use Rattle.rules_path.specs.Verdicts.{bit}
 use Rattle.rules_path.proofs.BitLaws.{add_bit_other, add_bit_ones, bit_past}
 use Rattle.rules_page.specs.Weights.{without, later, leads, and_then, by_weight}
 use Rattle.rules_page.proofs.SellerOrder.{Leads, leads_are}
-use Rattle.verdict_page.specs.Orders.{is_left, or_sixteen}
-
--- ---- the one that comes first of two
-module _ (best p a b : ℕ) where
-  pub pick_later : best < 16 → a < b → p ≡ cond (ltb best 16) (cond (ltb a b) p best) p
-  pick_later h l = rw (lt-ltb best 16 h, lt-ltb a b l)
-
-  pub pick_before : best < 16 → b ≤ a → best ≡ cond (ltb best 16) (cond (ltb a b) p best) p
-  pick_before h l = rw (lt-ltb best 16 h, le-ltb a b l)
-
-  pub pick_only : 16 ≤ best → p ≡ cond (ltb best 16) (cond (ltb a b) p best) p
-  pick_only h = rw (le-ltb best 16 h)
+use Rattle.verdict_page.specs.Orders.{is_left}
 
 -- ---- the one that leads, as the code has it
 module _ (w : ℕ → ℕ) (left : ℕ → Bool) where
-  pub none_led : or_sixteen (leads w left 0) ≡ 16
+  pub none_led : leads w left 0 ≡ None
   unfolding leads
   none_led = refl
 
@@ -45,42 +34,28 @@ module _ (w : ℕ → ℕ) (left : ℕ → Bool) where
     unfolding leads
     leads_out e = rw e
 
-    pub next_in : n < 16 → left n ≡ true
-        → cond (ltb (or_sixteen (leads w left n)) 16) (cond (ltb (w (or_sixteen (leads w left n))) (w n)) n (or_sixteen (leads w left n))) n ≡ or_sixteen (leads w left (n + 1))
-    next_in l e = go (leads w left n) (leads_are w left n) ∙ sym (ap or_sixteen (ap (leads w left) (add-one n) ∙ leads_in e))
-      where
-        either : (d : Bool) (p : ℕ) → cond d n p ≡ or_sixteen (cond d (some n) (some p))
-        either true p = refl
-        either false p = refl
+    pub next_in : left n ≡ true → (b : ℕ) → Some b ≡ later w (leads w left n) n → Some b ≡ leads w left (n + 1)
+    next_in e b f = f ∙ sym (ap (leads w left) (add-one n) ∙ leads_in e)
 
-        go : (o : Option ℕ) → Leads w left n o → cond (ltb (or_sixteen o) 16) (cond (ltb (w (or_sixteen o)) (w n)) n (or_sixteen o)) n ≡ or_sixteen (later w o n)
-        go none h = refl
-        go (some p) h = ap (λ (d : Bool). cond d (cond (ltb (w p) (w n)) n p) n) (lt-ltb p 16 (omega (arith, h.0, l))) ∙ either (ltb (w p) (w n)) p
+  -- the one that leads is one of those left
+  below : (o : Option ℕ) (n : ℕ) → n ≤ 16 → Leads w left n o → IfSome o (λ p. p < 16)
+  below None n h s = tt
+  below (Some p) n h s = omega (arith, s.0)
 
-  -- the number that answers it
-  module _ (p : ℕ) (e : p ≡ or_sixteen (leads w left 16)) where
-    pub led : p < 16 → (leads w left 16 ≡ some p) × (left p ≡ true)
-    led l = go (leads w left 16) refl (leads_are w left 16)
-      where
-        go : (o : Option ℕ) → leads w left 16 ≡ o → Leads w left 16 o → (o ≡ some p) × (left p ≡ true)
-        go none f s = absurd (omega (arith, e ∙ ap or_sixteen f, l))
-        go (some q) f s = let z : p ≡ q = e ∙ ap or_sixteen f in (ap some (sym z), ap left z ∙ s.1)
+  pub leads_below : (n : ℕ) → n ≤ 16 → IfSome (leads w left n) (λ p. p < 16)
+  leads_below n h = below (leads w left n) n h (leads_are w left n)
 
-    unled : 16 ≤ p → leads w left 16 ≡ none
-    unled l = go (leads w left 16) refl (leads_are w left 16)
-      where
-        go : (o : Option ℕ) → leads w left 16 ≡ o → Leads w left 16 o → o ≡ none
-        go none f s = refl
-        go (some q) f s = absurd (omega (arith, e ∙ ap or_sixteen f, l, s.0))
+  pub led : (p : ℕ) → leads w left 16 ≡ Some p → (p < 16) × (left p ≡ true)
+  led p e = let s = subst (Leads w left 16) e (leads_are w left 16) in (s.0, s.1)
 
-    pub order_none : 16 ≤ p → (k : ℕ) → by_weight k w left ≡ []
-    unfolding by_weight
-    order_none l zero = refl
-    order_none l (suc k) = ap (λ (o : Option ℕ). and_then o (λ q. by_weight k w (without q left))) (unled l)
+  pub order_none : leads w left 16 ≡ None → (k : ℕ) → by_weight k w left ≡ []
+  unfolding by_weight
+  order_none e zero = refl
+  order_none e (suc k) = ap (λ (o : Option ℕ). and_then o (λ q. by_weight k w (without q left))) e
 
-    pub order_next : p < 16 → (k : ℕ) → by_weight (suc k) w left ≡ p ∷ by_weight k w (without p left)
-    unfolding by_weight
-    order_next l k = ap (λ (o : Option ℕ). and_then o (λ q. by_weight k w (without q left))) (led l).0
+  pub order_next : (p : ℕ) → leads w left 16 ≡ Some p → (k : ℕ) → by_weight (suc k) w left ≡ p ∷ by_weight k w (without p left)
+  unfolding by_weight
+  order_next p e k = ap (λ (o : Option ℕ). and_then o (λ q. by_weight k w (without q left))) e
 
 -- ---- the bits left
 pub bit_there : (q m : ℕ) → is_left m q ≡ true → 2 ^ q ≤ m
@@ -123,10 +98,10 @@ module _ (w : ℕ → ℕ) (left p rest : ℕ) (e : rest ≡ left / 2 ^ p) where
       ∙ rest_skip k (λ j l. z j (omega (arith, l)))
 
   -- and up to the last
-  pub rest_none : p ≤ 16 → ((j : ℕ) → j < 16 - p → bit j rest ≡ 0) → or_sixteen (leads w (is_left left) p) ≡ or_sixteen (leads w (is_left left) 16)
+  pub rest_none : p ≤ 16 → ((j : ℕ) → j < 16 - p → bit j rest ≡ 0) → leads w (is_left left) p ≡ leads w (is_left left) 16
   rest_none l z =
       let whole : 16 ≡ p + (16 - p) = omega (arith, l) in
-      sym (ap or_sixteen (ap (leads w (is_left left)) whole ∙ rest_skip (16 - p) z))
+      sym (ap (leads w (is_left left)) whole ∙ rest_skip (16 - p) z)
 
   pub rest_in : (k : ℕ) → bit k rest ≡ 1 → is_left left (p + k) ≡ true
   rest_in k h = eq-eqb (bit (p + k) left) 1 (rest_bit k ∙ h)

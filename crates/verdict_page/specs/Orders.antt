@@ -1,6 +1,5 @@
 -- The sellers left to print, as bits of a number.
 use Rattle.std.specs.Prelude.{ℕ, Bool, List, eqb, get_or}
-use Rattle.std.proofs.Math.Option.{Option, none, some}
 use Rattle.rules_path.specs.Verdicts.{bit}
 use Rattle.rules_page.specs.Pages.{printable}
 
@@ -11,8 +10,3 @@ weight_in withheld p = printable (get_or withheld p 0)
 -- whether the bit of portfolio p is a one
 abbrev pub is_left : ℕ → ℕ → Bool
 is_left left p = eqb (bit p left) 1
-
--- 16 for none
-abbrev pub or_sixteen : Option ℕ → ℕ
-or_sixteen none = 16
-or_sixteen (some p) = p

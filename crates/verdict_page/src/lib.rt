@@ -2,20 +2,19 @@
 // cite the definitions of rules_page and rules_state.
 #![tactic(auto)]
 
-ghost use Rattle.std.specs.Prelude.{◌≡◌, cond, [], ◌∷◌, ℕ, ◌+◌, ◌*◌, ◌%◌, ◌<◌, ◌≤◌, ltb, pos, length, take};
+ghost use Rattle.std.specs.Prelude.{◌≡◌, [], ◌∷◌, ℕ, ◌+◌, ◌%◌, ◌<◌, ◌≤◌, pos, length, Some, IfSome};
 ghost use Rattle.rules_number.specs.Order.{nat_of};
 ghost use Rattle.rules_path.specs.Verdicts.{finding_number, bit};
 ghost use Rattle.rules_text.specs.Printing.{line_text, group_text};
 ghost use Rattle.rules_page.specs.Pages.{verdict_rows, seller_rows, verdict_table, seller_table, verdict_text, Put, verdict_room, put_within, put_within_to, printable as printableOf};
-ghost use Rattle.rules_page.specs.Weights.{leads};
+ghost use Rattle.rules_page.specs.Weights.{later, leads};
 ghost use Rattle.rules_state.specs.Verdicts.{finding_by, verdict_in, verdicts_in};
-ghost use Rattle.verdict_page.specs.Orders.{weight_in, is_left, or_sixteen};
+ghost use Rattle.verdict_page.specs.Orders.{weight_in, is_left};
 ghost use Rattle.verdict_page.specs.Shown.{is_judged, shown_whole, withheld_in};
 
 use page::printable;
 use rules_interval::Interval;
 use rules_path::Market;
-use rules_text::Printed;
 
 // Verdicts and the sellers named are put where at least this many bytes are left.
 pub const PAGE_ROOM: usize = 49_152;
@@ -24,13 +23,7 @@ pub const PAGE_ROOM: usize = 49_152;
 fn is_judged(finding: i64) -> bool
     ensures { result ≡ is_judged finding }
 {
-    if finding == 0 {
-        return true;
-    }
-    if finding == 1 {
-        return true;
-    }
-    false
+    finding == 0 || finding == 1
 }
 
 // A cell of a verdict with this finding: 0 where it is negative, or where the constraint is not binding.
@@ -48,17 +41,6 @@ fn named_by(finding: i64, names: i64) -> u32
     ensures { result ≡ shown_whole (finding_by finding) (nat_of names) % 4294967296 }
 {
     (number::whole(shown_cell(finding, names)) % 4_294_967_296) as u32
-}
-
-// Puts the line of the first k values at an offset, and answers the offset after it.
-fn put_line(out: &mut [u8], at: usize, row: [i64; 5], k: usize) -> usize
-    requires { at + 21 * k ≤ length out.old }
-    ensures { Put (21 * k) out.old at (line_text (take k row)) out.new result }
-{
-    match print::print_line(out, at, row, k) {
-        Printed::To(next) => next,
-        Printed::Full => at,
-    }
 }
 
 // The values of the line of a verdict on constraint c.
@@ -87,11 +69,8 @@ fn put_verdict(
     ensures { Put 105 out.old at (group_text (printableOf i) c (verdict_rows (verdict_in verdicts.now c))) out.new result }
 {
     let from = rules_state::VERDICT_WIDTH * c;
-    let finding = verdicts[from];
-    let demand = verdicts[from + 1];
-    let left = verdicts[from + 2];
-    let row = verdict_row(i, c, finding, demand, left);
-    put_line(out, at, row, 5)
+    let row = verdict_row(i, c, verdicts[from], verdicts[from + 1], verdicts[from + 2]);
+    page::put_line(out, at, &row)
 }
 
 // Puts the verdicts on the first constraints, a line each, and answers the offset after them.
@@ -107,10 +86,8 @@ fn put_verdicts(
 {
     let n = number::at_most(constraints, Interval::MAX_CONSTRAINTS);
     let mut p = at;
-    let mut c: usize = 0;
-    while c < n {
+    for c in 0..n {
         p = put_verdict(out, p, i, c, verdicts);
-        c += 1;
     }
     p
 }
@@ -120,24 +97,23 @@ fn amount_of(verdicts: &[i64; rules_state::VERDICT_ROOM], c: usize, p: usize) ->
     requires { (c < 32) × (p < 16) }
     ensures { result ≡ weight_in (withheld_in verdicts.now c) p }
 {
-    let x = verdicts[rules_state::VERDICT_WIDTH * c + 4 + p];
-    number::whole(x)
+    number::whole(verdicts[rules_state::VERDICT_WIDTH * c + 4 + p])
 }
 
-// Of the seller that comes first among lower numbers, or 16 where there is none, and p, the one that comes first.
-fn first_of(verdicts: &[i64; rules_state::VERDICT_ROOM], c: usize, best: usize, p: usize) -> usize
-    requires { (c < 32) × (p < 16) }
-    ensures { result ≡ cond (ltb best 16) (cond (ltb (weight_in (withheld_in verdicts.now c) best) (weight_in (withheld_in verdicts.now c) p)) p best) p }
+// Of the seller that comes first among lower numbers, if there is one, and p, the one that comes first.
+fn first_of(
+    verdicts: &[i64; rules_state::VERDICT_ROOM],
+    c: usize,
+    best: Option<usize>,
+    p: usize,
+) -> usize
+    requires { (c < 32) × (p < 16) × IfSome best (λ q. q < 16) }
+    ensures { Some result ≡ later (weight_in (withheld_in verdicts.now c)) best p }
 {
-    if best < Market::MAX_PORTFOLIOS {
-        let a = amount_of(verdicts, c, best);
-        let b = amount_of(verdicts, c, p);
-        if a < b {
-            return p;
-        }
-        return best;
+    match best {
+        Some(q) if amount_of(verdicts, c, p) <= amount_of(verdicts, c, q) => q,
+        _ => p,
     }
-    p
 }
 
 // How many bits stand below the lowest one.
@@ -149,14 +125,15 @@ fn zeros_below(bits: u32) -> usize
     u32::trailing_zeros(bits) as usize
 }
 
-// The seller of constraint c to print first of those left; 16 where none is.
-fn next_seller(verdicts: &[i64; rules_state::VERDICT_ROOM], c: usize, left: u32) -> usize
+// The seller of constraint c to print first of those left.
+fn next_seller(verdicts: &[i64; rules_state::VERDICT_ROOM], c: usize, left: u32) -> Option<usize>
     requires { c < 32 }
-    ensures { result ≡ or_sixteen (leads (weight_in (withheld_in verdicts.now c)) (is_left left) 16) }
+    ensures { result ≡ leads (weight_in (withheld_in verdicts.now c)) (is_left left) 16 }
 {
-    let mut best: usize = Market::MAX_PORTFOLIOS;
+    let mut best = None;
     let mut rest = left;
     let mut p: usize = 0;
+    // By skips, and not by each number: few portfolios are left, and this is done for each of them.
     while p < Market::MAX_PORTFOLIOS {
         if rest == 0 {
             return best;
@@ -166,7 +143,7 @@ fn next_seller(verdicts: &[i64; rules_state::VERDICT_ROOM], c: usize, left: u32)
         if p >= Market::MAX_PORTFOLIOS {
             return best;
         }
-        best = first_of(verdicts, c, best, p);
+        best = Some(first_of(verdicts, c, best, p));
         rest = (rest >> skip) / 2;
         p += 1;
     }
@@ -190,9 +167,8 @@ fn put_seller(
         printable(c as u64),
         printable(p as u64),
         printable(amount_of(verdicts, c, p)),
-        0,
     ];
-    put_line(out, at, row, 4)
+    page::put_line(out, at, &row)
 }
 
 // Puts the sellers named for constraint c, a line each, the larger amount first, and answers the offset after them.
@@ -207,25 +183,17 @@ fn put_named(
     ensures { Put 1344 out.old at (group_text (printableOf i) c (seller_rows (verdict_in verdicts.now c))) out.new result }
 {
     let from = rules_state::VERDICT_WIDTH * c;
-    let finding = verdicts[from];
-    let names = verdicts[from + 3];
-    let mut left = named_by(finding, names);
-    let sellers = verdict::sellers_named(left) as usize;
+    let mut left = named_by(verdicts[from], verdicts[from + 3]);
     let mut q = at;
-    let mut n: usize = 0;
-    while n < sellers {
-        let p = next_seller(verdicts, c, left);
-        if p >= Market::MAX_PORTFOLIOS {
-            return q;
-        }
+    while let Some(p) = next_seller(verdicts, c, left) {
         q = put_seller(out, q, i, c, verdicts, p);
         left -= 1 << p;
-        n += 1;
     }
     q
 }
 
-// Puts the sellers named for the first constraints, and answers the offset after them.
+// Puts the sellers named for the first constraints, and answers the offset after them. One function for this and put_verdicts would take what is put of a
+// constraint as a closure: no plainer.
 fn put_sellers(
     out: &mut [u8],
     at: usize,
@@ -238,10 +206,8 @@ fn put_sellers(
 {
     let n = number::at_most(constraints, Interval::MAX_CONSTRAINTS);
     let mut p = at;
-    let mut c: usize = 0;
-    while c < n {
+    for c in 0..n {
         p = put_named(out, p, i, c, verdicts);
-        c += 1;
     }
     p
 }
@@ -253,16 +219,16 @@ pub fn print_verdicts(
     i: u64,
     constraints: usize,
     verdicts: &[i64; rules_state::VERDICT_ROOM],
-) -> Printed
+) -> Option<usize>
     ensures buffer { out.new ≡ put_within verdict_room out.old at (verdict_text i constraints (verdicts_in verdicts.now)) }
     ensures next { result ≡ put_within_to verdict_room out.old at (verdict_text i constraints (verdicts_in verdicts.now)) }
     ensures whole { at + verdict_room ≤ length out.old → length (verdict_text i constraints (verdicts_in verdicts.now)) ≤ verdict_room }
 {
     if !number::has_room(out.len(), at, PAGE_ROOM) {
-        return Printed::Full;
+        return None;
     }
     let a = print::put_names(out, at, b"interval constraint verdict demand left\n");
     let b = put_verdicts(out, a, i, constraints, verdicts);
     let c = print::put_names(out, b, b"interval constraint portfolio withheld\n");
-    Printed::To(put_sellers(out, c, i, constraints, verdicts))
+    Some(put_sellers(out, c, i, constraints, verdicts))
 }

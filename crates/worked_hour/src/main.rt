@@ -4,24 +4,32 @@
 
 use engine::{Answer, Hour};
 use rules_cost::{Costs, Point};
-use rules_curve::{Curve, Outcome, RawCurve, RawStep};
+use rules_curve::{Curve, RawCurve, RawStep, Refusal};
 use rules_interval::Interval;
 use rules_mitigation::Mitigated;
 use rules_opening::{Opening, Resource, Source};
-use rules_path::Verdict;
+use rules_path::{Finding, Market, Verdict};
 use std::io;
 
+// The verdict that is printed of a refused call.
+const NOT_BINDING: Verdict = Verdict {
+    finding: Finding::NotBinding,
+    demand: 0,
+    left: 0,
+    named: 0,
+    withheld: [0; Market::MAX_PORTFOLIOS],
+};
+
 // A line for the answer: the refusal's number, or 0.
-fn print_outcome(rt: &impl Print, label: &str, outcome: Outcome) -> io::Result<()> {
-    println!(rt; "{label}{}", curve::outcome_number(outcome))
+fn print_number(rt: &impl Print, label: &str, refusal: Option<Refusal>) -> io::Result<()> {
+    println!(rt; "{label}{}", refusal.map_or(0, curve::refusal_number))
 }
 
 // A line for a verdict: finding, demand, left and how many sellers are named.
 fn print_verdict(rt: &impl Print, v: Verdict) -> io::Result<()> {
-    let finding = v.finding;
     println!(rt;
         "verdict {} {} {} sellers {}",
-        verdict::finding_number(finding),
+        verdict::finding_number(v.finding),
         v.demand,
         v.left,
         verdict::sellers_named(v.named)
@@ -31,13 +39,8 @@ fn print_verdict(rt: &impl Print, v: Verdict) -> io::Result<()> {
 // A line for a curve: its label, resource, then end and price of each step.
 fn print_curve(rt: &impl Print, label: &str, r: u64, c: Mitigated) -> io::Result<()> {
     print!(rt; "{label}{r}")?;
-    let mut i: usize = 0;
-    while i < Mitigated::MAX_STEPS {
-        if i < c.count {
-            let step = c.steps[i];
-            print!(rt; " {} {}", step.end, number::whole(step.price))?;
-        }
-        i += 1;
+    for step in c.steps.iter().take(c.count) {
+        print!(rt; " {} {}", step.end, number::whole(step.price))?;
     }
     println!(rt; "")
 }
@@ -53,10 +56,7 @@ fn print_five_minute(rt: &impl Print, hour: Hour) -> io::Result<()> {
 }
 
 fn step(end: i64, price: i64) -> RawStep {
-    RawStep {
-        end: end,
-        price: price,
-    }
+    RawStep { end, price }
 }
 
 // A raw curve of three steps, of which the first `count` count.
@@ -66,9 +66,9 @@ fn curve_of(start: i64, count: usize, first: RawStep, second: RawStep, third: Ra
     steps[1] = second;
     steps[2] = third;
     RawCurve {
-        start: start,
-        count: count,
-        steps: steps,
+        start,
+        count,
+        steps,
     }
 }
 
@@ -89,7 +89,7 @@ fn costs() -> Costs {
     };
     Costs {
         count: 3,
-        points: points,
+        points,
         gas: 40_000,
         rate: 0,
         allowance: 0,
@@ -103,7 +103,7 @@ fn costs() -> Costs {
 // Case T's resource.
 fn case_t(portfolio: i64) -> Resource {
     Resource {
-        portfolio: portfolio,
+        portfolio,
         bid: curve_of(
             10_000,
             2,
@@ -125,23 +125,16 @@ fn case_t(portfolio: i64) -> Resource {
 
 // Case T's resource with the same default curve from a pack.
 fn case_t_packed(portfolio: i64) -> Resource {
-    let t = case_t(portfolio);
-    let bid = t.bid;
-    let costs = t.costs;
-    let pack = t.pack;
     Resource {
-        portfolio: portfolio,
-        bid: bid,
         source: Source::Pack,
-        costs: costs,
-        pack: pack,
+        ..case_t(portfolio)
     }
 }
 
 // The resource of P9: bid 900000, default 378402 from a pack.
 fn p9(portfolio: i64) -> Resource {
     Resource {
-        portfolio: portfolio,
+        portfolio,
         bid: curve_of(0, 1, step(20_000, 900_000), step(0, 0), step(0, 0)),
         source: Source::Pack,
         costs: costs(),
@@ -158,9 +151,9 @@ fn opening(first: Resource, second: Resource) -> Opening {
     Opening {
         month: 25,
         portfolios: 2,
-        sellers: sellers,
+        sellers,
         resources: 2,
-        list: list,
+        list,
     }
 }
 
@@ -185,31 +178,36 @@ fn interval(shadow: i64, lmp: i64, parameter: i64) -> Interval {
         shadow: shadows,
         resources: 2,
         lmp: lmps,
-        dispatch: dispatch,
-        available: available,
+        dispatch,
+        available,
         floor: [0; 64],
-        factors: factors,
-        parameter: parameter,
+        factors,
+        parameter,
     }
 }
 
-// The bids for the hour, and their answer.
+// The bids for the hour, and their answer; of a refused one the curve of a blank hour, which has no step.
 fn print_bids(rt: &impl Print, hour: Hour) -> io::Result<()> {
     let first = hour.hour_bid(0);
     let second = hour.hour_bid(1);
-    let outcome = first.outcome;
-    print_outcome(rt, "hour bid ", outcome)?;
-    print_curve(rt, "bid ", 0, first.curve)?;
-    print_curve(rt, "bid ", 1, second.curve)
+    let none = Hour::blank().curve(0);
+    print_number(rt, "hour bid ", first.err())?;
+    print_curve(rt, "bid ", 0, first.unwrap_or(none))?;
+    print_curve(rt, "bid ", 1, second.unwrap_or(none))
 }
 
-// An answer printed; the hour that it hands back.
-fn answered(rt: &impl Print, label: &str, answer: Answer) -> io::Result<Hour> {
-    let verdicts = answer.verdicts;
-    let next = answer.hour;
-    let outcome = answer.outcome;
-    let verdict = verdicts[0];
-    print_outcome(rt, label, outcome)?;
+// An answer printed; the hour that it hands back, the one before where it is a refusal.
+fn answered(
+    rt: &impl Print,
+    label: &str,
+    before: Hour,
+    answer: Result<Answer, Refusal>,
+) -> io::Result<Hour> {
+    let (next, verdict) = match answer {
+        Ok(given) => (given.hour, given.verdicts[0]),
+        Err(_) => (before, NOT_BINDING),
+    };
+    print_number(rt, label, answer.err())?;
     print_verdict(rt, verdict)?;
     print_curves(rt, next)?;
     Ok(next)
@@ -217,7 +215,7 @@ fn answered(rt: &impl Print, label: &str, answer: Answer) -> io::Result<Hour> {
 
 // An interval.
 fn call(rt: &impl Print, hour: Hour, v: Interval) -> io::Result<Hour> {
-    answered(rt, "interval ", hour.interval(v))
+    answered(rt, "interval ", hour, hour.interval(v))
 }
 
 // An interval, and a pass, with the five-minute curves printed too.
@@ -228,17 +226,16 @@ fn quarter(rt: &impl Print, hour: Hour, v: Interval) -> io::Result<Hour> {
 }
 
 fn pass(rt: &impl Print, hour: Hour, v: Interval) -> io::Result<Hour> {
-    let next = answered(rt, "pass ", hour.pass(v))?;
+    let next = answered(rt, "pass ", hour, hour.pass(v))?;
     print_five_minute(rt, next)?;
     Ok(next)
 }
 
-// The opened hour, its answer printed.
+// The opened hour, its answer printed; a blank one where it is refused.
 fn open(rt: &impl Print, o: Opening) -> io::Result<Hour> {
     let opened = Hour::open(o);
-    let hour = opened.hour;
-    let outcome = opened.outcome;
-    print_outcome(rt, "opening ", outcome)?;
+    let hour = opened.unwrap_or(Hour::blank());
+    print_number(rt, "opening ", opened.err())?;
     print_curves(rt, hour)?;
     Ok(hour)
 }

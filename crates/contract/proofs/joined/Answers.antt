@@ -6,14 +6,15 @@ use Rattle.rules_number.proofs.OrderLaws.{eq_z_other}
 use Rattle.rules_curve.specs.Conditions.{edge}
 use Rattle.rules_curve.specs.Curves.{pack_unless, default_refusal}
 use Rattle.rules_curve.specs.Demands.{First}
-use Rattle.rules_curve.specs.Refusals.{outcome_number}
 use Rattle.rules_curve.specs.declared.RawCurve.{RawCurve}
 use Rattle.rules_curve.specs.declared.RawStep.{RawStep}
 use Rattle.rules_curve.proofs.Answered.{packed_alone}
+use Rattle.rules_curve.proofs.RefusalLaws.{refused_number}
+use Rattle.std.proofs.lemmas.Result.{err_from_is_err_and}
 use Rattle.rules_contract.specs.Conditions.{contract_demands}
 use Rattle.rules_contract.specs.ContractUnits.{joined_raw, lowest, contract_refusal}
 use Rattle.rules_contract.proofs.Exactly.{contract_exactly}
-use Rattle.contract.proofs.PartLaws.{parts_refuse, parts_counted, apart, too_many, taken, some_number, joined_is}
+use Rattle.contract.proofs.PartLaws.{parts_refuse, parts_counted, apart, too_many, taken, joined_is}
 use Rattle.contract.proofs.joined.Goals as goal
 
 by_fields : {x y : ℤ} {n : ℕ} {l m : List RawStep} → x ≡ y → l ≡ m → ◌≡◌ {A = RawCurve} (record { start = x; count = n; steps = l }) (record { start = y; count = n; steps = m })
@@ -31,36 +32,36 @@ met : {x y z : ℤ} → x ≡ z → SFits w64 x → SFits w64 y → of_z w64 x �
 met e f g h = sym e ∙ bits_same _ _ f g h
 
 -- one of 1 to 3
-pub returns-in-Refused : goal.returns-in-Refused
-returns-in-Refused c =
+pub returns-in_err-parts_checked : goal.returns-in_err-parts_checked
+returns-in_err-parts_checked c =
     let a = c.args.proxy in
     let b = c.args.above in
     let full_a : length a.steps ≡ 11 = search rules in
     let full_b : length b.steps ≡ 11 = search rules in
     let n = lowest (default_refusal a) (default_refusal b) in
-    let some = subst (λ (n : ℕ). 0 < n) c.parts_checked-outcome.ensures (some_number c.in-Refused.is) in
-    let r = answered a b full_a full_b n _ _ (c.refused.ensures.number ∙ sym (ap outcome_number c.in-Refused.is) ∙ c.parts_checked-outcome.ensures)
-    (c.refused.ensures.pack ∙ sym (packed_alone n (joined_raw a b) some)) (parts_refuse a b some) in
-    record { number = r.0; pack = r.1.0; exactly = r.1.1 }
+    let some : 0 < n = subst (λ (n : ℕ). 0 < n) c.in_err-parts_checked.ensures (refused_number _) in
+    let r = answered a b full_a full_b n _ _ c.in_err-parts_checked.ensures (sym (packed_alone n (joined_raw a b) some)) (parts_refuse a b some) in
+    let p = err_from_is_err_and c.from_residual.result c.from_residual.ensures.1 in
+    rw (p.1, p.2) (record { number = r.0; pack = r.1.0; exactly = r.1.1 })
 
-pub last_end-end-requires : goal.last_end-end-requires
-last_end-end-requires c = let k = (parts_counted c.args.proxy c.args.above (sym c.in_default.ensures)).0 in (k.at_least, k.at_most)
+pub last_end-requires : goal.last_end-requires
+last_end-requires c = let k = (parts_counted c.args.proxy c.args.above (sym c.in_ok-parts_checked.ensures)).0 in (k.at_least, k.at_most)
 
 -- 23
-pub returns-then-end-start : goal.returns-then-end-start
-returns-then-end-start c =
+pub returns-then-last_end-above : goal.returns-then-last_end-above
+returns-then-last_end-above c =
     let a = c.args.proxy in
     let b = c.args.above in
     let full_a : length a.steps ≡ 11 = search rules in
     let full_b : length b.steps ≡ 11 = search rules in
-    let none : lowest (default_refusal a) (default_refusal b) ≡ 0 = sym c.in_default.ensures in
-    let r = answered a b full_a full_b 23 _ _ c.refused-then-end-start.ensures.number c.refused-then-end-start.ensures.pack
-    (apart a b none (eq_z_other (edge a a.count) b.start (λ q. c.if-end-start.true (ap (of_z w64) (c.last_end-end.ensures ∙ q))))) in
+    let none : lowest (default_refusal a) (default_refusal b) ≡ 0 = sym c.in_ok-parts_checked.ensures in
+    let r = answered a b full_a full_b 23 _ _ refl refl
+    (apart a b none (eq_z_other (edge a a.count) b.start (λ q. c.if-last_end-above.true (ap (of_z w64) (c.last_end.ensures ∙ q))))) in
     record { number = r.0; pack = r.1.0; exactly = r.1.1 }
 
 pub overflow_add-n : goal.overflow_add-n
 overflow_add-n c =
-    let k = parts_counted c.args.proxy c.args.above (sym c.in_default.ensures) in
+    let k = parts_counted c.args.proxy c.args.above (sym c.in_ok-parts_checked.ensures) in
     omega (arith, k.0.at_most, k.1.at_most)
 
 -- 24
@@ -70,17 +71,16 @@ returns-then-n-gt-MAX_STEPS c =
     let b = c.args.above in
     let full_a : length a.steps ≡ 11 = search rules in
     let full_b : length b.steps ≡ 11 = search rules in
-    let none : lowest (default_refusal a) (default_refusal b) ≡ 0 = sym c.in_default.ensures in
-    let fe : SFits w64 c.last_end-end.result = search rules in
+    let none : lowest (default_refusal a) (default_refusal b) ≡ 0 = sym c.in_ok-parts_checked.ensures in
+    let fe : SFits w64 c.last_end.result = search rules in
     let fs : SFits w64 b.start = search rules in
-    let k : edge a a.count ≡ b.start = met c.last_end-end.ensures fe fs c.if-end-start.false in
-    let o = c.refused-then-n-gt-MAX_STEPS in
-    let r = answered a b full_a full_b 24 _ _ o.ensures.number o.ensures.pack (too_many a b none k (omega arith)) in
+    let k : edge a a.count ≡ b.start = met c.last_end.ensures fe fs c.if-last_end-above.false in
+    let r = answered a b full_a full_b 24 _ _ refl refl (too_many a b none k (omega arith)) in
     record { number = r.0; pack = r.1.0; exactly = r.1.1 }
 
-pub raised-steps-requires-clause-counts : goal.raised-steps-requires-clause-counts
-raised-steps-requires-clause-counts c =
-    let k = parts_counted c.args.proxy c.args.above (sym c.in_default.ensures) in
+pub raised-requires-clause-counts : goal.raised-requires-clause-counts
+raised-requires-clause-counts c =
+    let k = parts_counted c.args.proxy c.args.above (sym c.in_ok-parts_checked.ensures) in
     (k.0.at_least, (k.0.at_most, k.1.at_most))
 
 pub returns : goal.returns
@@ -89,14 +89,14 @@ returns c =
     let b = c.args.above in
     let full_a : length a.steps ≡ 11 = search rules in
     let full_b : length b.steps ≡ 11 = search rules in
-    let none : lowest (default_refusal a) (default_refusal b) ≡ 0 = sym c.in_default.ensures in
-    let fe : SFits w64 c.last_end-end.result = search rules in
+    let none : lowest (default_refusal a) (default_refusal b) ≡ 0 = sym c.in_ok-parts_checked.ensures in
+    let fe : SFits w64 c.last_end.result = search rules in
     let fs : SFits w64 b.start = search rules in
-    let k : edge a a.count ≡ b.start = met c.last_end-end.ensures fe fs c.if-end-start.false in
+    let k : edge a a.count ≡ b.start = met c.last_end.ensures fe fs c.if-last_end-above.false in
     let n = parts_counted a b none in
     let f : rd a.start ≡ a.start = search rules in
     let r = answered a b full_a full_b 0 0 _ refl
-    (by_fields f c.raised-steps.ensures
+    (by_fields f c.raised.ensures
     ∙ joined_is a b (omega (arith, full_a, n.0.at_most)) (omega (arith, full_b, n.1.at_most)))
     (taken a b none k (omega arith)) in
     record { number = r.0; pack = r.1.0; exactly = r.1.1 }

@@ -22,7 +22,7 @@ loop-i-init c =
     let n : length a.steps ≡ 11 = search rules in
     let m : length b.steps ≡ 11 = search rules in
     let f : rd (get_or a.steps 0 no_step).price ≡ (get_or a.steps 0 no_step).price = search rules in
-    (omega arith, (refl, f ∙ ap (λ (x : RawStep). x.price) (sym (first_at a b (omega arith) (omega arith) 0 (omega arith)))))
+    (refl, f ∙ ap (λ (x : RawStep). x.price) (sym (first_at a b (omega arith) (omega arith) 0 (omega arith))))
 
 -- one step more
 fill : (l steps : List RawStep) (i : ℕ) (e p : ℤ) → i < most_steps → steps ≡ padded most_steps no_step (listed (raised_step l) i) → e ≡ (get_or l i no_step).end → p ≡ highest_to (step_price l) i
@@ -42,13 +42,10 @@ loop-i-preserved c =
     let fe : rd s.end ≡ s.end = search rules in
     let fm : rd c.max-largest.result ≡ c.max-largest.result = search rules in
     let price : rd s.price ≡ prices a b i = fp ∙ ap (λ (x : RawStep). x.price) c.step_of-step.ensures in
-    let largest : rd c.max-largest.result ≡ largest_to a b (suc i) = fm ∙ c.max-largest.ensures ∙ ap₂ max_z c.loop-i.invariant.1.1 price in (
-      omega arith,
-      (
-        fill (joined_steps a b) c.loop-i.steps i _ _ (omega arith) c.loop-i.invariant.1.0 (fe ∙ ap (λ (x : RawStep). x.end) c.step_of-step.ensures)
-            (largest ∙ highest_from_lem (prices a b 0) (prices a b) i (≤ℤ_refl (prices a b 0))),
-        largest ∙ ap (largest_to a b) (sym (add-one i)),
-      ),
+    let largest : rd c.max-largest.result ≡ largest_to a b (suc i) = fm ∙ c.max-largest.ensures ∙ ap₂ max_z c.loop-i.invariant.1 price in (
+      fill (joined_steps a b) c.loop-i.steps i _ _ (omega arith) c.loop-i.invariant.0 (fe ∙ ap (λ (x : RawStep). x.end) c.step_of-step.ensures)
+          (largest ∙ highest_from_lem (prices a b 0) (prices a b) i (≤ℤ_refl (prices a b 0))),
+      largest ∙ ap (largest_to a b) (sym (add-one i)),
     )
 
 pub returns : goal.returns
@@ -58,4 +55,4 @@ returns c =
     let n : length a.steps ≡ 11 = search rules in
     let m : length b.steps ≡ 11 = search rules in
     let e : c.loop-i.i ≡ a.count + b.count = omega arith in
-    c.loop-i.invariant.1.0 ∙ ap (λ (k : ℕ). padded most_steps no_step (listed (raised_step (joined_steps a b)) k)) e ∙ sym (steps_are a b (omega arith) (omega arith))
+    c.loop-i.invariant.0 ∙ ap (λ (k : ℕ). padded most_steps no_step (listed (raised_step (joined_steps a b)) k)) e ∙ sym (steps_are a b (omega arith) (omega arith))

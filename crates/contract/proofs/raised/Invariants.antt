@@ -1,5 +1,5 @@
 -- `contract::raised`: the raised steps so far, with blank steps past them, and the largest price of those. Assumes nothing.
-use Rattle.std.proofs.Common.{◌≡◌, ◌-◌, ◌≤◌}
+use Rattle.std.proofs.Common.{◌≡◌}
 use Rattle.rules_number.specs.Over.{listed, padded}
 use Rattle.rules_curve.specs.Conditions.{no_step}
 use Rattle.rules_curve.specs.Curves.{most_steps}
@@ -9,7 +9,4 @@ use Rattle.contract.proofs.raised.Given as goal
 
 abbrev pub invariant-loop-i : goal.invariant-loop-i
 invariant-loop-i l =
-    (l.i ≤ l.n) × ((l.steps ≡ padded most_steps no_step (listed (raised_step (joined_steps l.proxy l.above)) l.i)) × (l.largest ≡ largest_to l.proxy l.above l.i))
-
-abbrev pub decreases-loop-i : goal.decreases-loop-i
-decreases-loop-i l = l.n - l.i
+    (l.steps ≡ padded most_steps no_step (listed (raised_step (joined_steps l.proxy l.above)) l.i)) × (l.largest ≡ largest_to l.proxy l.above l.i)

@@ -22,19 +22,18 @@ by_parts e f g = cc
 
 pub loop-i-init : goal.loop-i-init
 unfolding padded listed
-loop-i-init c = record { within = omega arith; filled = refl }
+loop-i-init c = record { filled = refl }
 
 pub loop-i-preserved : goal.loop-i-preserved
 loop-i-preserved c =
     let l = c.loop-i in
     record {
-      within = omega arith;
-      filled = filled_next most_steps blank_step (step_in c.args.s.now) l.steps l.i _ (omega arith) l.invariant.filled
-          (by_cells c.whole_at-end.ensures (search rules ∙ c.cell_at-price.ensures));
+      filled = filled_next most_steps blank_step (step_in c.args.s.now) l.step-items l.i _ (omega arith) l.invariant.filled
+          (by_cells c.whole_at.ensures (search rules ∙ c.cell_at.ensures));
     }
 
 pub returns : goal.returns
 unfolding curve_in_cells
 returns c =
     let l = c.loop-i in
-    by_parts c.whole_at.ensures c.whole_at-2.ensures (filled most_steps blank_step (step_in c.args.s.now) l.steps l.i (omega arith) (omega arith) l.invariant.filled)
+    by_parts c.whole_at-2.ensures c.whole_at-3.ensures (filled most_steps blank_step (step_in c.args.s.now) l.step-items l.i (omega arith) (omega arith) l.invariant.filled)

@@ -1,5 +1,5 @@
 -- What the loop of `cost::curve_in` keeps: the steps before its index are those of the cells.
-use Rattle.std.proofs.Common.{◌-◌, ◌+◌, ◌≡◌, ◌≤◌}
+use Rattle.std.proofs.Common.{◌+◌, ◌≡◌}
 use Rattle.rules_number.specs.Order.{nat_of}
 use Rattle.rules_number.specs.Over.{listed, padded}
 use Rattle.rules_curve.specs.Curves.{most_steps, step_to, blank_step}
@@ -8,9 +8,5 @@ use Rattle.cost.proofs.curve_in.Given as goal
 
 abbrev pub invariant-loop-i : goal.invariant-loop-i
 invariant-loop-i l = record {
-  within : l.i ≤ most_steps;
-  filled : l.steps ≡ padded most_steps blank_step (listed (λ i. step_to (nat_of (cell_at l.s (2 + i))) (cell_at l.s (2 + most_steps + i))) l.i);
+  filled : l.step-items ≡ padded most_steps blank_step (listed (λ i. step_to (nat_of (cell_at l.s (2 + i))) (cell_at l.s (2 + most_steps + i))) l.i);
 }
-
-abbrev pub decreases-loop-i : goal.decreases-loop-i
-decreases-loop-i l = most_steps - l.i

@@ -9,12 +9,12 @@ use Rattle.cost.proofs.from_whole.Goals as goal
 pub returns-then-n-lt-MIN_POINTS-clause-number : goal.returns-then-n-lt-MIN_POINTS-clause-number
 returns-then-n-lt-MIN_POINTS-clause-number c =
     let e = refused_4 (costs_by c.args.n c.args.points.now c.args.charges.now) (too_few (costs_by c.args.n c.args.points.now c.args.charges.now) c.if-n-lt-MIN_POINTS.true) in
-    rw (in_sight c.args.n c.args.points.now c.args.charges.now, e, c.refused.ensures) refl
+    rw (in_sight c.args.n c.args.points.now c.args.charges.now, e) refl
 
 pub returns-then-n-lt-MIN_POINTS-clause-ends : goal.returns-then-n-lt-MIN_POINTS-clause-ends
 returns-then-n-lt-MIN_POINTS-clause-ends c =
     let e = refused_4 (costs_by c.args.n c.args.points.now c.args.charges.now) (too_few (costs_by c.args.n c.args.points.now c.args.charges.now) c.if-n-lt-MIN_POINTS.true) in
-    rw (in_sight c.args.n c.args.points.now c.args.charges.now, e, c.refused.ensures) refl
+    rw (in_sight c.args.n c.args.points.now c.args.charges.now, e) refl
 
 pub returns-then-n-lt-MIN_POINTS-clause-cells : goal.returns-then-n-lt-MIN_POINTS-clause-cells
 returns-then-n-lt-MIN_POINTS-clause-cells c =
@@ -24,12 +24,12 @@ returns-then-n-lt-MIN_POINTS-clause-cells c =
 pub returns-then-n-gt-MAX_POINTS-clause-number : goal.returns-then-n-gt-MAX_POINTS-clause-number
 returns-then-n-gt-MAX_POINTS-clause-number c =
     let e = refused_4 (costs_by c.args.n c.args.points.now c.args.charges.now) (too_many (costs_by c.args.n c.args.points.now c.args.charges.now) c.if-n-gt-MAX_POINTS.true) in
-    rw (in_sight c.args.n c.args.points.now c.args.charges.now, e, c.refused-then-n-gt-MAX_POINTS.ensures) refl
+    rw (in_sight c.args.n c.args.points.now c.args.charges.now, e) refl
 
 pub returns-then-n-gt-MAX_POINTS-clause-ends : goal.returns-then-n-gt-MAX_POINTS-clause-ends
 returns-then-n-gt-MAX_POINTS-clause-ends c =
     let e = refused_4 (costs_by c.args.n c.args.points.now c.args.charges.now) (too_many (costs_by c.args.n c.args.points.now c.args.charges.now) c.if-n-gt-MAX_POINTS.true) in
-    rw (in_sight c.args.n c.args.points.now c.args.charges.now, e, c.refused-then-n-gt-MAX_POINTS.ensures) refl
+    rw (in_sight c.args.n c.args.points.now c.args.charges.now, e) refl
 
 pub returns-then-n-gt-MAX_POINTS-clause-cells : goal.returns-then-n-gt-MAX_POINTS-clause-cells
 returns-then-n-gt-MAX_POINTS-clause-cells c =
@@ -41,14 +41,14 @@ returns-then-not-quantities_good-clause-number c =
     let d = costs_in c.args.n c.args.points.now c.args.charges.now in
     let counted : points_good d ≡ true = rw (in_sight c.args.n c.args.points.now c.args.charges.now) (right_count (costs_by c.args.n c.args.points.now c.args.charges.now) c.if-n-lt-MIN_POINTS.false c.if-n-gt-MAX_POINTS.false) in
     let e = refused_5 d counted (sym (c.quantities_good.ensures c.args.charges.now) ∙ c.if-not-quantities_good.true) in
-    rw (e, c.refused-then-not-quantities_good.ensures) refl
+    rw (e) refl
 
 pub returns-then-not-quantities_good-clause-ends : goal.returns-then-not-quantities_good-clause-ends
 returns-then-not-quantities_good-clause-ends c =
     let d = costs_in c.args.n c.args.points.now c.args.charges.now in
     let counted : points_good d ≡ true = rw (in_sight c.args.n c.args.points.now c.args.charges.now) (right_count (costs_by c.args.n c.args.points.now c.args.charges.now) c.if-n-lt-MIN_POINTS.false c.if-n-gt-MAX_POINTS.false) in
     let e = refused_5 d counted (sym (c.quantities_good.ensures c.args.charges.now) ∙ c.if-not-quantities_good.true) in
-    rw (e, c.refused-then-not-quantities_good.ensures) refl
+    rw (e) refl
 
 pub returns-then-not-quantities_good-clause-cells : goal.returns-then-not-quantities_good-clause-cells
 returns-then-not-quantities_good-clause-cells c =
@@ -63,7 +63,7 @@ returns-then-not-heats_good-clause-number c =
     let counted : points_good d ≡ true = rw (in_sight c.args.n c.args.points.now c.args.charges.now) (right_count (costs_by c.args.n c.args.points.now c.args.charges.now) c.if-n-lt-MIN_POINTS.false c.if-n-gt-MAX_POINTS.false) in
     let risen = sym (c.quantities_good.ensures c.args.charges.now) ∙ c.if-not-quantities_good.false in
     let e = refused_6 d counted risen (sym (c.heats_good.ensures c.args.charges.now) ∙ c.if-not-heats_good.true) in
-    rw (e, c.refused-then-not-heats_good.ensures) refl
+    rw (e) refl
 
 pub returns-then-not-heats_good-clause-ends : goal.returns-then-not-heats_good-clause-ends
 returns-then-not-heats_good-clause-ends c =
@@ -71,7 +71,7 @@ returns-then-not-heats_good-clause-ends c =
     let counted : points_good d ≡ true = rw (in_sight c.args.n c.args.points.now c.args.charges.now) (right_count (costs_by c.args.n c.args.points.now c.args.charges.now) c.if-n-lt-MIN_POINTS.false c.if-n-gt-MAX_POINTS.false) in
     let risen = sym (c.quantities_good.ensures c.args.charges.now) ∙ c.if-not-quantities_good.false in
     let e = refused_6 d counted risen (sym (c.heats_good.ensures c.args.charges.now) ∙ c.if-not-heats_good.true) in
-    rw (e, c.refused-then-not-heats_good.ensures) refl
+    rw (e) refl
 
 pub returns-then-not-heats_good-clause-cells : goal.returns-then-not-heats_good-clause-cells
 returns-then-not-heats_good-clause-cells c =
@@ -88,7 +88,7 @@ returns-then-not-prices_good-clause-number c =
     let risen = sym (c.quantities_good.ensures c.args.charges.now) ∙ c.if-not-quantities_good.false in
     let heated = sym (c.heats_good.ensures c.args.charges.now) ∙ c.if-not-heats_good.false in
     let e = refused_7 d counted risen heated (sym (c.prices_good.ensures c.args.n c.args.points.now) ∙ c.if-not-prices_good.true) in
-    rw (e, c.refused-then-not-prices_good.ensures) refl
+    rw (e) refl
 
 pub returns-then-not-prices_good-clause-ends : goal.returns-then-not-prices_good-clause-ends
 returns-then-not-prices_good-clause-ends c =
@@ -97,7 +97,7 @@ returns-then-not-prices_good-clause-ends c =
     let risen = sym (c.quantities_good.ensures c.args.charges.now) ∙ c.if-not-quantities_good.false in
     let heated = sym (c.heats_good.ensures c.args.charges.now) ∙ c.if-not-heats_good.false in
     let e = refused_7 d counted risen heated (sym (c.prices_good.ensures c.args.n c.args.points.now) ∙ c.if-not-prices_good.true) in
-    rw (e, c.refused-then-not-prices_good.ensures) refl
+    rw (e) refl
 
 pub returns-then-not-prices_good-clause-cells : goal.returns-then-not-prices_good-clause-cells
 returns-then-not-prices_good-clause-cells c =

@@ -10,7 +10,7 @@ use Rattle.cost.proofs.heats_good.Goals as goal
 
 pub loop-i-init : goal.loop-i-init
 unfolding all_to
-loop-i-init c = record { within = omega arith; good = λ charges. refl }
+loop-i-init c = record { good = λ charges. refl }
 
 pub returns-then-not-within : goal.returns-then-not-within
 unfolding heat_good
@@ -28,7 +28,6 @@ loop-i-preserved c =
     let i = c.loop-i.i in
     let h : rd (cell_at a.points.now (2 * i + 1)) ≡ cell_at a.points.now (2 * i + 1) = search rules in
     record {
-      within = omega arith;
       good = λ charges. (
           let e = c.within.ensures ∙ ap heat_in_range (h ∙ heat_at_lem a.n a.points.now charges i (omega arith)) in
           all_next (λ j. heat_in_range (heat_at (costs_by a.n a.points.now charges) j)) i (c.loop-i.invariant.good charges) (sym e ∙ c.if-not-within.false));

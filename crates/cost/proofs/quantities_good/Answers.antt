@@ -14,7 +14,7 @@ use Rattle.cost.proofs.quantities_good.Goals as goal
 
 pub loop-i-init : goal.loop-i-init
 unfolding all_to mw_before
-loop-i-init c = record { within = omega arith; rises = λ charges. (refl, refl) }
+loop-i-init c = record { rises = λ charges. (refl, refl) }
 
 pub returns-then-m-before : goal.returns-then-m-before
 unfolding mw_good
@@ -33,7 +33,6 @@ loop-i-preserved c =
     let i = c.loop-i.i in
     let m : rd (cell_at a.points.now (2 * i)) ≡ cell_at a.points.now (2 * i) = search rules in
     record {
-      within = omega arith;
       rises = λ charges. (
           let s = costs_by a.n a.points.now charges in
           let q = m ∙ mw_at_lem a.n a.points.now charges i (omega arith) in

@@ -1,13 +1,9 @@
 -- What the loop of `cost::split_at` keeps: no segment before its index is split.
-use Rattle.std.proofs.Common.{◌-◌, ◌≡◌, ◌≤◌, ◌<◌, ℕ, false}
+use Rattle.std.proofs.Common.{◌≡◌, ◌<◌, ℕ, false}
 use Rattle.cost.specs.Cells.{splits_at}
 use Rattle.cost.proofs.split_at.Given as goal
 
 abbrev pub invariant-loop-i : goal.invariant-loop-i
 invariant-loop-i l = record {
-  within : l.i ≤ l.n;
   none : (j : ℕ) → j < l.i → splits_at l.points l.k j ≡ false;
 }
-
-abbrev pub decreases-loop-i : goal.decreases-loop-i
-decreases-loop-i l = l.n - l.i

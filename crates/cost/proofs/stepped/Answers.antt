@@ -10,7 +10,6 @@ use Rattle.rules_number.proofs.Kit.{rd}
 use Rattle.rules_number.proofs.Meant.{Meant, fits, kept, bits, ◌⊖◌, held}
 use Rattle.rules_number.proofs.OrderLaws.{max_least}
 use Rattle.rules_curve.specs.Curves.{most_steps}
-use Rattle.rules_curve.specs.declared.Outcome.TheVariants.{Accepted}
 use Rattle.rules_cost.specs.Costs.{most_points, first_to, point_at, mw_at, heat_at, pmax, segment_count, mark, split_at, count_of_steps, segment_at, end_at, edge_at, width_at, incremental_rate, rate_at, with_adder, mw_in_range, heat_in_range, rate_in_range, points_good, mw_good, heat_good, prices_in_range, charges_in_range, cost_curve}
 use Rattle.rules_cost.specs.declared.Point.{Point}
 use Rattle.rules_cost.specs.declared.Costs.{Costs}
@@ -22,7 +21,7 @@ use Rattle.rules_library.specs.Slices.{cell_at, costs_in}
 use Rattle.rules_state.specs.Layout.{curve_room}
 use Rattle.rules_state.specs.States.{cell_of}
 use Rattle.cost.specs.Cells.{charge_count, point_of, splits_at}
-use Rattle.cost.specs.declared.DefaultEnds.{DefaultEnds}
+use Rattle.cost.specs.declared.Ends.{Ends}
 use Rattle.cost.proofs.CellLaws.{cell_in}
 use Rattle.cost.proofs.LiftLaws.{nat_size}
 use Rattle.cost.proofs.NumberLaws.{costs_by, in_sight, mw_at_lem, heat_at_lem, next_mw, next_heat, split_by}
@@ -202,7 +201,7 @@ module _ (n : ℕ) (points charges : List ℤ) (g : Given n points charges) wher
         width_requires : (0 < nat_of (kept wide tt).code) × (nat_of (kept wide tt).code ≤ 2000000)
         width_requires = (subst (λ (n : ℕ). 0 < n) (sym width_is) (width_above costs quantities_are t more), subst (λ (z : ℤ). nat_of z ≤ 2000000) (sym (kept wide tt).same) (nat_size wide.means wide.within))
 
-by_parts : {s s' e e' : ℕ} → s ≡ s' → e ≡ e' → ◌≡◌ {A = DefaultEnds} (record { outcome = Accepted; start = s; end = e }) (record { outcome = Accepted; start = s'; end = e' })
+by_parts : {s s' e e' : ℕ} → s ≡ s' → e ≡ e' → ◌≡◌ {A = Ends} (record { start = s; end = e }) (record { start = s'; end = e' })
 by_parts a b = cc
 
 pub overflow_sub-segments : goal.overflow_sub-segments
@@ -418,7 +417,7 @@ returns-then-not-within-clause-number c =
     let ri = rate_is c.args.n c.args.points.now c.args.charges.now g c.mark_of-k.result c.split_at-split.result c.steps_of-count.result b c.loop-t.t c.loop-t-test.true c.segment_of-i.result c.segment_of-i.ensures r2 c.end_of-end.result q c.end_of-end.ensures rt r0 r1 r3 c.incremental_rate-rate.result c.incremental_rate-rate.ensures in
     let out = sym (ap rate_in_range ri) ∙ ap rate_in_range (sym rr) ∙ sym c.within.ensures ∙ c.if-not-within.true in
     let bad = rate_fails (costs c.args.n c.args.points.now c.args.charges.now g) (points_are c.args.n c.args.points.now c.args.charges.now g) (quantities_are c.args.n c.args.points.now c.args.charges.now g) (prices_are c.args.n c.args.points.now c.args.charges.now g) c.loop-t.t c.loop-t.invariant (more c.args.n c.args.points.now c.args.charges.now g c.mark_of-k.result c.split_at-split.result c.steps_of-count.result b c.loop-t.t c.loop-t-test.true c.segment_of-i.result c.segment_of-i.ensures) out in
-    rw (sight c.args.n c.args.points.now c.args.charges.now g, bad, c.refused.ensures) refl
+    rw (sight c.args.n c.args.points.now c.args.charges.now g, bad) refl
 
 pub returns-then-not-within-clause-ends : goal.returns-then-not-within-clause-ends
 returns-then-not-within-clause-ends c =
@@ -434,7 +433,7 @@ returns-then-not-within-clause-ends c =
     let ri = rate_is c.args.n c.args.points.now c.args.charges.now g c.mark_of-k.result c.split_at-split.result c.steps_of-count.result b c.loop-t.t c.loop-t-test.true c.segment_of-i.result c.segment_of-i.ensures r2 c.end_of-end.result q c.end_of-end.ensures rt r0 r1 r3 c.incremental_rate-rate.result c.incremental_rate-rate.ensures in
     let out = sym (ap rate_in_range ri) ∙ ap rate_in_range (sym rr) ∙ sym c.within.ensures ∙ c.if-not-within.true in
     let bad = rate_fails (costs c.args.n c.args.points.now c.args.charges.now g) (points_are c.args.n c.args.points.now c.args.charges.now g) (quantities_are c.args.n c.args.points.now c.args.charges.now g) (prices_are c.args.n c.args.points.now c.args.charges.now g) c.loop-t.t c.loop-t.invariant (more c.args.n c.args.points.now c.args.charges.now g c.mark_of-k.result c.split_at-split.result c.steps_of-count.result b c.loop-t.t c.loop-t-test.true c.segment_of-i.result c.segment_of-i.ensures) out in
-    rw (sight c.args.n c.args.points.now c.args.charges.now g, bad, c.refused.ensures) refl
+    rw (sight c.args.n c.args.points.now c.args.charges.now g, bad) refl
 
 pub returns-then-not-within-clause-cells : goal.returns-then-not-within-clause-cells
 returns-then-not-within-clause-cells c =

@@ -4,7 +4,7 @@ use Rattle.std.proofs.Math.ListN.{length-take}
 use Rattle.rules_curve.specs.Curves.{most_steps}
 use Rattle.curve.proofs.bid_used.Goals as goal
 
-pub returns-then-n-lt-MAX_BID_STEPS : goal.returns-then-n-lt-MAX_BID_STEPS
-returns-then-n-lt-MAX_BID_STEPS c =
+pub returns : goal.returns
+returns c =
     let n : length c.args.bid.steps ≡ most_steps = search rules in
     simp (length-take, length-take) (omega arith)

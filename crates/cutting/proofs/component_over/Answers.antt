@@ -24,19 +24,19 @@ summed factors shadow l r a k h sum e =
 
 module _ (c : After-cell_at) where
   abbrev column : ℕ
-  column = get_or c.args.entering.now c.loop-k.k 0
+  column = get_or c.args.entering.now c.loop-c.c-index 0
 
   factor-is : c.factor_at.result ≡ cell c.args.factors.now (c.args.r * 32 + column)
   factor-is = c.factor_at.ensures
 
   factor-size : nat_abs c.factor_at.result ≤ 1000000
-  factor-size = rw factor-is (c.requires.factor c.loop-k.k c.loop-k-test.true)
+  factor-size = rw factor-is (c.requires.factor c.loop-c.c-index c.loop-c-test.true)
 
   price-is : c.cell_at.result ≡ cell c.args.shadow.now column
   price-is = c.cell_at.ensures
 
   price-size : nat_abs c.cell_at.result ≤ 100000000
-  price-size = rw price-is (c.requires.price c.loop-k.k c.loop-k-test.true)
+  price-size = rw price-is (c.requires.price c.loop-c.c-index c.loop-c-test.true)
 
   -- the code's expressions in a turn
   abbrev product : Meant
@@ -44,12 +44,12 @@ module _ (c : After-cell_at) where
 
   abbrev next : Meant
   next =
-      bits c.loop-k.sum-bits (summed c.args.factors.now c.args.shadow.now c.args.entering.now c.args.r c.requires c.loop-k.k c.loop-k.invariant.0 c.loop-k.sum-bits c.loop-k.invariant.1)
+      bits c.loop-c.sum-bits (summed c.args.factors.now c.args.shadow.now c.args.entering.now c.args.r c.requires c.loop-c.c-index (omega arith) c.loop-c.sum-bits c.loop-c.invariant)
       ⊕ kept product tt
 
-pub loop-k-init : goal.loop-k-init
+pub loop-c-init : goal.loop-c-init
 unfolding sum_over
-loop-k-init c = (omega arith, refl)
+loop-c-init c = refl
 
 pub overflow_mul-sum : goal.overflow_mul-sum
 overflow_mul-sum c = fits (product (goal.at.overflow_mul-sum c).After-cell_at) tt
@@ -57,23 +57,20 @@ overflow_mul-sum c = fits (product (goal.at.overflow_mul-sum c).After-cell_at) t
 pub overflow_add-sum : goal.overflow_add-sum
 overflow_add-sum c = fits (next (goal.at.overflow_add-sum c).After-cell_at) tt
 
-pub loop-k-preserved : goal.loop-k-preserved
-loop-k-preserved c =
-    let p = (goal.at.loop-k-preserved c).After-cell_at in (
-      omega arith,
-      (kept (next p) tt).same
-          ∙ rw (c.loop-k.invariant.1, factor-is p, price-is p) (sym (front_next (term c.args.factors.now c.args.shadow.now c.args.r) c.args.entering.now c.loop-k.k c.loop-k-test.true)),
-    )
+pub loop-c-preserved : goal.loop-c-preserved
+loop-c-preserved c =
+    let p = (goal.at.loop-c-preserved c).After-cell_at in
+    (kept (next p) tt).same ∙ rw (c.loop-c.invariant, factor-is p, price-is p) (sym (front_next (term c.args.factors.now c.args.shadow.now c.args.r) c.args.entering.now c.loop-c.c-index c.loop-c-test.true))
 
 pub overflow_sub-result : goal.overflow_sub-result
 overflow_sub-result c =
     fits
     (const 0
-    ⊖ bits c.loop-k.sum-bits (summed c.args.factors.now c.args.shadow.now c.args.entering.now c.args.r c.requires c.loop-k.k c.loop-k.invariant.0 c.loop-k.sum-bits c.loop-k.invariant.1)) tt
+    ⊖ bits c.loop-c.sum-bits (summed c.args.factors.now c.args.shadow.now c.args.entering.now c.args.r c.requires c.loop-c.c-index (omega arith) c.loop-c.sum-bits c.loop-c.invariant)) tt
 
 pub returns : goal.returns
 unfolding component_over
 returns c =
     let x = c.args.entering.now in
-    (kept (const 0 ⊖ bits c.loop-k.sum-bits (summed c.args.factors.now c.args.shadow.now x c.args.r c.requires c.loop-k.k c.loop-k.invariant.0 c.loop-k.sum-bits c.loop-k.invariant.1)) tt).same
-    ∙ +ℤ_idl (neg_ℤ (to_z w64 c.loop-k.sum-bits)) ∙ ap neg_ℤ (rw (take_all c.loop-k.k x c.loop-k-test.false) at c.loop-k.invariant.1)
+    (kept (const 0 ⊖ bits c.loop-c.sum-bits (summed c.args.factors.now c.args.shadow.now x c.args.r c.requires c.loop-c.c-index (omega arith) c.loop-c.sum-bits c.loop-c.invariant)) tt).same
+    ∙ +ℤ_idl (neg_ℤ (to_z w64 c.loop-c.sum-bits)) ∙ ap neg_ℤ (rw (take_all c.loop-c.c-index x c.loop-c-test.false) at c.loop-c.invariant)

@@ -1,10 +1,10 @@
 -- `cutting::cut_by`: the competitive price, and what is added to it. Assumes nothing.
+use Rattle.std.specs.Prelude.{Some}
 use Rattle.std.proofs.Common.{ap, pos, w64}
 use lib.Dec.{lit<}
 use mir.ValLaws.{to_z-of_z}
 use Rattle.rules_number.proofs.Kit.{le_not_lt, not_le_lt}
 use Rattle.rules_number.proofs.Meant.{Meant, fits, kept, local, const, ceiled, ◌⊕◌, ◌⊖◌, ◌⊗◌}
-use Rattle.rules_mitigation.specs.declared.FloorPrice.TheVariants.{Cut}
 use Rattle.rules_hour.specs.Cuts.{cut_from}
 use Rattle.cutting.proofs.cut_by.Goals as goal
 use Rattle.cutting.proofs.cut_by.Goals.{After-ceil_by-competitive}
@@ -44,4 +44,4 @@ returns c =
     let fd = to_z-of_z w64 c.args.dispatch c.ranges.dispatch in
     let fc = to_z-of_z w64 c.args.component c.ranges.component in
     rw (not_le_lt c.args.dispatch (pos 0) (simp fd at c.if-dispatch-le0.false), not_le_lt c.args.component (pos 0) (simp fc at c.if-component-le0.false))
-    (ap Cut (kept (floor (goal.at.returns c).After-ceil_by-competitive) tt).same)
+    (ap Some (kept (floor (goal.at.returns c).After-ceil_by-competitive) tt).same)

@@ -1,10 +1,6 @@
-use Rattle.std.proofs.Common.{◌-◌, ◌≤◌}
 use Rattle.cutting.specs.Entering.{Lists}
 use Rattle.cutting.proofs.entering_in.Given as goal
 
 -- the constraints before c are listed
 abbrev pub invariant-loop-c : goal.invariant-loop-c
-invariant-loop-c l = (l.c ≤ l.m) × Lists l.verdicts l.c l.list l.count
-
-abbrev pub decreases-loop-c : goal.decreases-loop-c
-decreases-loop-c l = l.m - l.c
+invariant-loop-c l = Lists l.verdicts l.c l.list l.count

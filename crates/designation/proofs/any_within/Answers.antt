@@ -11,22 +11,22 @@ use Rattle.designation.specs.Numbers.{any_within}
 use Rattle.designation.proofs.NumberLaws.{any_here, any_later}
 use Rattle.designation.proofs.any_within.Goals as goal
 
-pub loop-i-init : goal.loop-i-init
-loop-i-init c = (omega arith, refl)
+pub loop-finding-init : goal.loop-finding-init
+loop-finding-init c = refl
 
 pub returns-then-within : goal.returns-then-within
 returns-then-within c =
     let fl = to_z-of_z w64 c.args.lo c.ranges.lo in
-    any_here c.args.lo c.args.findings.now c.loop-i.i (omega arith) (sym (simp (fl, came (get_or c.args.findings.now c.loop-i.i (pos 0)) c.within-arg-1.given) at c.within.ensures) ∙ c.if-within.true) (rw fl at c.loop-i.invariant.1)
+    any_here c.args.lo c.args.findings.now c.loop-finding.finding-index (omega arith) (sym (simp (fl, came (get_or c.args.findings.now c.loop-finding.finding-index (pos 0)) c.within-arg-1.given) at c.within.ensures) ∙ c.if-within.true) (rw fl at c.loop-finding.invariant)
 
-pub loop-i-preserved : goal.loop-i-preserved
-loop-i-preserved c =
+pub loop-finding-preserved : goal.loop-finding-preserved
+loop-finding-preserved c =
     let fl = to_z-of_z w64 c.args.lo c.ranges.lo in
-    (omega arith, rw fl (any_later c.args.lo c.args.findings.now c.loop-i.i (omega arith) (sym (simp (fl, came (get_or c.args.findings.now c.loop-i.i (pos 0)) c.within-arg-1.given) at c.within.ensures) ∙ c.if-within.false) (rw fl at c.loop-i.invariant.1)))
+    rw fl (any_later c.args.lo c.args.findings.now c.loop-finding.finding-index (omega arith) (sym (simp (fl, came (get_or c.args.findings.now c.loop-finding.finding-index (pos 0)) c.within-arg-1.given) at c.within.ensures) ∙ c.if-within.false) (rw fl at c.loop-finding.invariant))
 
 pub returns : goal.returns
 unfolding any_within
 returns c =
     let fl = to_z-of_z w64 c.args.lo c.ranges.lo in
-    let e : c.loop-i.i ≡ length c.args.findings.now = omega arith in
-    sym (rw fl at c.loop-i.invariant.1 ∙ ap (any_within c.args.lo) (ap (λ i. drop i c.args.findings.now) e ∙ drop-length c.args.findings.now))
+    let e : c.loop-finding.finding-index ≡ length c.args.findings.now = omega arith in
+    sym (rw fl at c.loop-finding.invariant ∙ ap (any_within c.args.lo) (ap (λ i. drop i c.args.findings.now) e ∙ drop-length c.args.findings.now))

@@ -8,16 +8,16 @@ use Rattle.rules_number.proofs.SumLaws.{sum_next}
 use Rattle.rules_designation.specs.Designations.{hours_in}
 use Rattle.designation.proofs.hours_in.Goals as goal
 
-pub loop-i-init : goal.loop-i-init
+pub loop-mask-init : goal.loop-mask-init
 unfolding sum_to
-loop-i-init c = (omega arith, (refl, omega arith))
+loop-mask-init c = (refl, omega arith)
 
-pub loop-i-preserved : goal.loop-i-preserved
-loop-i-preserved c =
-    (omega arith, (rw (sum_next (λ k. ones (get_or c.args.masks k 0)) c.loop-i.i, sym c.loop-i.invariant.1.0, c.ones_in-sum.ensures.ones) refl, omega (arith, c.ones_in-sum.ensures.few, c.loop-i.invariant.1.1)))
+pub loop-mask-preserved : goal.loop-mask-preserved
+loop-mask-preserved c =
+    (rw (sum_next (λ k. ones (get_or c.args.masks k 0)) c.loop-mask.mask-index, sym c.loop-mask.invariant.0, c.ones_in-sum.ensures.ones) refl, omega (arith, c.ones_in-sum.ensures.few, c.loop-mask.invariant.1))
 
 pub returns : goal.returns
 unfolding hours_in
 returns c =
-    let e : c.loop-i.i ≡ 60 = omega arith in
-    rw (sym e) c.loop-i.invariant.1.0
+    let e : c.loop-mask.mask-index ≡ 60 = omega arith in
+    rw (sym e) c.loop-mask.invariant.0

@@ -9,6 +9,6 @@ pub returns : goal.returns
 unfolding marked_day
 returns c =
     let l = c.args.findings.now in
-    let b = c.marked_at-bound.ensures ∙ ap (λ (t : Bool). marked_at c.args.hour t c.args.day.bound) (c.any_within.ensures ∙ any_bound_lem l) in
-    let n = c.marked_at-noncompetitive.ensures ∙ ap (λ (t : Bool). marked_at c.args.hour t c.args.day.noncompetitive) (c.any_within-2.ensures ∙ any_non l) in
+    let b = c.marked_at.ensures ∙ ap (λ (t : Bool). marked_at c.args.hour t c.args.day.bound) (c.any_within.ensures ∙ any_bound_lem l) in
+    let n = c.marked_at-2.ensures ∙ ap (λ (t : Bool). marked_at c.args.hour t c.args.day.noncompetitive) (c.any_within-2.ensures ∙ any_non l) in
     rw (b, n)

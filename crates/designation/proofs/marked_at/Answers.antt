@@ -18,9 +18,9 @@ marks hour m p test t e = rw t (rw (← e) (ap (bit_or m) (one_bit p (omega arit
 leaves : (hour m : ℕ) (test : Bool) → test ≡ false → m ≡ marked_at hour test m
 leaves hour m test t = rw t
 
-pub returns-then-not-test : goal.returns-then-not-test
-returns-then-not-test c = leaves c.args.hour c.args.mask c.args.test (c.if-not-test.true)
+pub returns-else-test : goal.returns-else-test
+returns-else-test c = leaves c.args.hour c.args.mask c.args.test c.if-test.false
 
-pub returns : goal.returns
-returns c =
-    marks c.args.hour c.args.mask c.at_most.result c.args.test (c.if-not-test.false) c.at_most.ensures
+pub returns-then-test : goal.returns-then-test
+returns-then-test c =
+    marks c.args.hour c.args.mask c.at_most.result c.args.test c.if-test.true c.at_most.ensures

@@ -1,7 +1,6 @@
 -- `factor_table::row_into` meets its contract. Assumes nothing.
-use Rattle.std.proofs.Common.{◌≡◌, ℕ, ◌+◌, ◌≤◌, true, false, List, [], length, drop, set, ℤ, sym, ap, ◌∙◌, to_z, of_z, w64, length-drop, arith, rules}
-use borrow.Author.Tests.{not-true, not-false}
-use mathlib.Core.Option.{Option}
+use Rattle.std.specs.Prelude.{None, Option, Some}
+use Rattle.std.proofs.Common.{◌≡◌, ℕ, ◌+◌, ◌≤◌, true, List, [], length, drop, set, ℤ, sym, ap, ◌∙◌, to_z, of_z, w64, length-drop, arith, rules}
 use lib.Seq.{drop-drop}
 use Rattle.rules_number.specs.Order.{nat_of}
 use Rattle.rules_text.specs.Numbers.{Line, Row, lines, row}
@@ -29,22 +28,25 @@ module _ (s : List ℕ) (at r m : ℕ) (before : List ℤ) (count c next : ℕ) 
   abbrev past : ℕ
   past = next + length (line (drop next s))
 
-  module _ (h : Reads (r + 1) m count r c cells (drop next s) (length all) (with_factors before all) (lines (drop at s))) (f : Factor)
-      (e : f ≡ as_factor (next + length (line_at s next)) (if_suits (is_factor (r + 1) m (place m r c)) (row 3 (line_at s next)))) where
-    answers : f ≡ as_factor past asked
-    answers = e ∙ ap (λ (t : Line). as_factor (next + length t) (if_suits (is_factor (r + 1) m (place m r c)) (row 3 t))) (line_at_lem s next)
+  -- as it is read
+  abbrev answer : Option Factor
+  answer = as_factor (next + length (line_at s next)) (if_suits (is_factor (r + 1) m (place m r c)) (row 3 (line_at s next)))
 
+  answers : answer ≡ as_factor past asked
+  answers = ap (λ (t : Line). as_factor (next + length t) (if_suits (is_factor (r + 1) m (place m r c)) (row 3 t))) (line_at_lem s next)
+
+  module _ (h : Reads (r + 1) m count r c cells (drop next s) (length all) (with_factors before all) (lines (drop at s))) where
     -- none more
-    none_more : f.ok ≡ false → (count ≡ length all) × (cells ≡ with_factors before all)
-    none_more none_left =
-        let i = not_taken _ _ f answers none_left in
+    none_more : None ≡ answer → (count ≡ length all) × (cells ≡ with_factors before all)
+    none_more e =
+        let i = not_taken past asked (e ∙ answers) in
         let d = ends 2 (is_factor (r + 1) m) (up (r + 1) m) (cell 2) count (place m r c) [] (drop next s) _ _ _ h.lines i in
         (d.count, stored (r + 1) m count r c cells (drop next s) _ _ _ h i)
 
     -- one factor more
-    module _ (ok : f.ok ≡ true) where
+    module _ (f : Factor) (e : Some f ≡ answer) where
       found : Taken past asked f
-      found = taken _ _ f answers ok
+      found = taken past asked f (e ∙ answers)
 
       is_factor_lem : is_factor (r + 1) m (place m r c) found.x ≡ true
       is_factor_lem = (suits_of (is_factor (r + 1) m (place m r c)) (row 3 (line (drop next s))) found.x found.is).1
@@ -52,12 +54,12 @@ module _ (s : List ℕ) (at r m : ℕ) (before : List ℤ) (count c next : ℕ) 
       inside : f.constraint + 1 ≤ m
       inside =
           let b = (stands (r + 1) m (place m r c) found.x is_factor_lem).constraint in
-          let e = found.constraint in
+          let k = found.constraint in
           omega arith
 
       turn : (b : List ℤ) → b ≡ set cells (factor_cell r f.constraint) f.value
           → Goes (r + 1) m count r c cells (drop next s) (length all) (with_factors before all) (lines (drop at s)) h r (f.constraint + 1) b (drop f.next s)
-      turn b e =
+      turn b i =
           let k = found in
           let own = own_resource r m c k.x is_factor_lem in
           let v = f.value in
@@ -66,28 +68,27 @@ module _ (s : List ℕ) (at r m : ℕ) (before : List ℤ) (count c next : ℕ) 
           ∙ ap (set cells (factor_cell (nat_of (cell 0 k.x)) (nat_of (cell 1 k.x)))) k.value in
           goes (r + 1) m count r c cells (drop next s) _ _ _ h k.x k.is
           r (f.constraint + 1) (sym own) (ap (λ (i : ℕ). i + 1) k.constraint) inside b
-          (e ∙ stored)
+          (i ∙ stored)
           (drop f.next s)
           (ap (λ (n : ℕ). drop n s) k.after ∙ sym (drop-drop (length (line (drop next s))) next s))
 
 pub loop-f-init : goal.loop-f-init
 loop-f-init c = let a = c.args in (reads_start (a.r + 1) a.m a.r a.cells.now (drop a.at a.s.now), used_none a.s.now 0 a.at)
 
-pub returns-then-not-f : goal.returns-then-not-f
-returns-then-not-f c =
+pub returns : goal.returns
+returns c =
     let a = c.args in
     let l = c.loop-f in
-    let d = none_more a.s.now a.at a.r a.m a.cells.now l.count l.c l.next l.cells l.invariant.0 c.factor_at-f.result c.factor_at-f.ensures (not-true c.factor_at-f.result.ok c.if-not-f.true) in
+    let d = none_more a.s.now a.at a.r a.m a.cells.now l.count l.c l.next l.cells l.invariant.0 c.in_default.ensures in
     record { count = d.0; cells = d.1; offset = used_count l.invariant.1 }
 
 pub overflow_add-count : goal.overflow_add-count
 overflow_add-count c =
     let a = c.args in
     let l = c.loop-f in
-    let v : to_z w64 (of_z w64 c.factor_at-f.result.value) ≡ c.factor_at-f.result.value = search rules in
-    let ok = not-false c.factor_at-f.result.ok c.if-not-f.false in
-    let t = turn a.s.now a.at a.r a.m a.cells.now l.count l.c l.next l.cells l.invariant.0 c.factor_at-f.result c.factor_at-f.ensures ok c.put_factor.new.cells
-    (c.put_factor.ensures ∙ ap (set l.cells (factor_cell a.r c.factor_at-f.result.constraint)) v) in
+    let v : to_z w64 (of_z w64 c.in-Some.f.value) ≡ c.in-Some.f.value = search rules in
+    let t = turn a.s.now a.at a.r a.m a.cells.now l.count l.c l.next l.cells l.invariant.0 c.in-Some.f c.in-Some.ensures c.put_factor.new.cells
+    (c.put_factor.ensures ∙ ap (set l.cells (factor_cell a.r c.in-Some.f.constraint)) v) in
     let k = t.below in
     let f = lines_few (drop a.at a.s.now) in
     let d = length-drop a.at a.s.now in
@@ -97,27 +98,24 @@ pub overflow_add-c : goal.overflow_add-c
 overflow_add-c c =
     let a = c.args in
     let l = c.loop-f in
-    let ok = not-false c.factor_at-f.result.ok c.if-not-f.false in
-    let k = inside a.s.now a.at a.r a.m a.cells.now l.count l.c l.next l.cells l.invariant.0 c.factor_at-f.result c.factor_at-f.ensures ok in
+    let k = inside a.s.now a.at a.r a.m a.cells.now l.count l.c l.next l.cells l.invariant.0 c.in-Some.f c.in-Some.ensures in
     omega (arith, c.ranges.m)
 
 pub loop-f-smaller : goal.loop-f-smaller
 loop-f-smaller c =
     let a = c.args in
     let l = c.loop-f in
-    let v : to_z w64 (of_z w64 c.factor_at-f.result.value) ≡ c.factor_at-f.result.value = search rules in
-    let ok = not-false c.factor_at-f.result.ok c.if-not-f.false in
-    let t = turn a.s.now a.at a.r a.m a.cells.now l.count l.c l.next l.cells l.invariant.0 c.factor_at-f.result c.factor_at-f.ensures ok c.put_factor.new.cells
-    (c.put_factor.ensures ∙ ap (set l.cells (factor_cell a.r c.factor_at-f.result.constraint)) v) in
+    let v : to_z w64 (of_z w64 c.in-Some.f.value) ≡ c.in-Some.f.value = search rules in
+    let t = turn a.s.now a.at a.r a.m a.cells.now l.count l.c l.next l.cells l.invariant.0 c.in-Some.f c.in-Some.ensures c.put_factor.new.cells
+    (c.put_factor.ensures ∙ ap (set l.cells (factor_cell a.r c.in-Some.f.constraint)) v) in
     t.fewer
 
 pub loop-f-preserved : goal.loop-f-preserved
 loop-f-preserved c =
     let a = c.args in
     let l = c.loop-f in
-    let v : to_z w64 (of_z w64 c.factor_at-f.result.value) ≡ c.factor_at-f.result.value = search rules in
-    let ok = not-false c.factor_at-f.result.ok c.if-not-f.false in
-    let t = turn a.s.now a.at a.r a.m a.cells.now l.count l.c l.next l.cells l.invariant.0 c.factor_at-f.result c.factor_at-f.ensures ok c.put_factor.new.cells
-    (c.put_factor.ensures ∙ ap (set l.cells (factor_cell a.r c.factor_at-f.result.constraint)) v) in
-    let k = found a.s.now a.at a.r a.m a.cells.now l.count l.c l.next l.cells l.invariant.0 c.factor_at-f.result c.factor_at-f.ensures ok in
+    let v : to_z w64 (of_z w64 c.in-Some.f.value) ≡ c.in-Some.f.value = search rules in
+    let t = turn a.s.now a.at a.r a.m a.cells.now l.count l.c l.next l.cells l.invariant.0 c.in-Some.f c.in-Some.ensures c.put_factor.new.cells
+    (c.put_factor.ensures ∙ ap (set l.cells (factor_cell a.r c.in-Some.f.constraint)) v) in
+    let k = found a.s.now a.at a.r a.m a.cells.now l.count l.c l.next l.cells l.invariant.0 c.in-Some.f c.in-Some.ensures in
     (t.again, used_next l.invariant.1 k.after)

@@ -16,7 +16,6 @@ overflow_add-count c =
     let l = c.loop-r in
     let w = c.row_into-row in
     let e = w.ensures in
-    let t = c.loop-r-test.true in
     let more = rows_next a.m a.b l.r l.count l.cells (lines (drop l.next a.s.now)) _ _ l.invariant.0 (l.r + 1) (omega arith) (omega arith)
     w.result.count e.count w.new.cells e.cells (lines (drop w.result.next a.s.now)) (bytes_past a.s.now l.next w.result.count w.result.next e.offset) in
     let n = more.count in
@@ -31,7 +30,6 @@ loop-r-preserved c =
     let l = c.loop-r in
     let w = c.row_into-row in
     let e = w.ensures in
-    let t = c.loop-r-test.true in
     let more = rows_next a.m a.b l.r l.count l.cells (lines (drop l.next a.s.now)) _ _ l.invariant.0 (l.r + 1) (omega arith) (omega arith)
     w.result.count e.count w.new.cells e.cells (lines (drop w.result.next a.s.now)) (bytes_past a.s.now l.next w.result.count w.result.next e.offset) in
     (more, used_then l.invariant.1 (used_lines a.s.now l.count l.next w.result.count w.result.next e.offset (l.count + w.result.count) refl))
@@ -41,6 +39,5 @@ returns c =
     let a = c.args in
     let l = c.loop-r in
     let u = l.invariant.0.upto in
-    let t = c.loop-r-test.false in
     let d = rows_end a.m a.b l.r l.count l.cells (lines (drop l.next a.s.now)) _ _ l.invariant.0 (omega arith) in
     record { count = d.0; cells = d.1; offset = used_count l.invariant.1 }

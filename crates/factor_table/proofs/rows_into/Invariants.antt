@@ -1,5 +1,5 @@
 -- The loop of `factor_table::rows_into`.
-use Rattle.std.proofs.Common.{◌-◌, length, drop}
+use Rattle.std.proofs.Common.{length, drop}
 use Rattle.rules_text.specs.Numbers.{lines}
 use Rattle.rules_text.proofs.UsedLaws.{Used}
 use Rattle.rules_parts.specs.Parts.{with_factors}
@@ -11,6 +11,3 @@ abbrev pub invariant-loop-r : goal.invariant-loop-r
 invariant-loop-r l =
     Rows l.m l.b l.r l.count l.cells (lines (drop l.next l.s)) (length (factors_of l.m l.a l.b (lines (drop l.at l.s))))
     (with_factors l.initial.cells (factors_of l.m l.a l.b (lines (drop l.at l.s)))) × Used l.s 0 l.at l.count l.next
-
-abbrev pub decreases-loop-r : goal.decreases-loop-r
-decreases-loop-r l = l.b - l.r

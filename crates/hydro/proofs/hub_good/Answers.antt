@@ -8,7 +8,7 @@ use Rattle.hydro.proofs.hub_good.Goals as goal
 
 pub loop-j-init : goal.loop-j-init
 unfolding all_to
-loop-j-init c = (omega arith, refl)
+loop-j-init c = refl
 
 pub returns-then-not-within : goal.returns-then-not-within
 returns-then-not-within c =
@@ -24,4 +24,4 @@ loop-j-preserved c =
     let j = c.loop-j.j in
     let f : rd c.cell_at.result ≡ c.cell_at.result = search rules in
     let is : c.within.result ≡ is_hub_price (hub_price a.prices.now a.hub j) = c.within.ensures ∙ ap is_hub_price (f ∙ c.cell_at.ensures) in
-    (omega arith, all_next (λ k. is_hub_price (hub_price a.prices.now a.hub k)) j c.loop-j.invariant.1 (sym is ∙ c.if-not-within.false))
+    all_next (λ k. is_hub_price (hub_price a.prices.now a.hub k)) j c.loop-j.invariant (sym is ∙ c.if-not-within.false)

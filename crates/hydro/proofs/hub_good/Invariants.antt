@@ -1,11 +1,8 @@
 -- `hydro::hub_good`: the prices so far are in range. Assumes nothing.
-use Rattle.std.proofs.Common.{◌≡◌, ◌-◌, ◌≤◌, true}
+use Rattle.std.proofs.Common.{◌≡◌, true}
 use Rattle.rules_number.specs.Over.{all_to}
 use Rattle.rules_hydro.specs.Hydros.{hub_price, is_hub_price}
 use Rattle.hydro.proofs.hub_good.Given as goal
 
 abbrev pub invariant-loop-j : goal.invariant-loop-j
-invariant-loop-j l = (l.j ≤ l.n) × (all_to (λ k. is_hub_price (hub_price l.prices l.hub k)) l.j ≡ true)
-
-abbrev pub decreases-loop-j : goal.decreases-loop-j
-decreases-loop-j l = l.n - l.j
+invariant-loop-j l = all_to (λ k. is_hub_price (hub_price l.prices l.hub k)) l.j ≡ true

@@ -13,7 +13,7 @@ loop-j-init c =
     let a = c.args in
     let e : a.hub * 14 ≡ a.hub * 14 + 0 = omega arith in
     let f : rd c.cell_at-largest.result ≡ c.cell_at-largest.result = search rules in
-    (omega arith, f ∙ c.cell_at-largest.ensures ∙ ap (cell_at a.prices.now) e)
+    f ∙ c.cell_at-largest.ensures ∙ ap (cell_at a.prices.now) e
 
 pub loop-j-preserved : goal.loop-j-preserved
 unfolding highest_to
@@ -22,14 +22,12 @@ loop-j-preserved c =
     let j = c.loop-j.j in
     let e : a.hub * 14 + j + 1 ≡ a.hub * 14 + suc j = omega arith in
     let fc : rd c.cell_at.result ≡ c.cell_at.result = search rules in
-    let fm : rd c.max-largest.result ≡ c.max-largest.result = search rules in (
-      omega arith,
-      fm ∙ c.max-largest.ensures ∙ ap₂ max_z c.loop-j.invariant.1 (fc ∙ c.cell_at.ensures ∙ ap (cell_at a.prices.now) e) ∙ ap (highest_to (hub_price a.prices.now a.hub)) (sym (add-one j)),
-    )
+    let fm : rd c.max-largest.result ≡ c.max-largest.result = search rules in
+    fm ∙ c.max-largest.ensures ∙ ap₂ max_z c.loop-j.invariant (fc ∙ c.cell_at.ensures ∙ ap (cell_at a.prices.now) e) ∙ ap (highest_to (hub_price a.prices.now a.hub)) (sym (add-one j))
 
 pub returns : goal.returns
 unfolding largest_at
 returns c =
     let a = c.args in
     let e : c.loop-j.j ≡ a.n + 1 = omega arith in
-    c.loop-j.invariant.1 ∙ ap (highest_to (hub_price a.prices.now a.hub)) e
+    c.loop-j.invariant ∙ ap (highest_to (hub_price a.prices.now a.hub)) e

@@ -5,7 +5,4 @@ use Rattle.rules_hydro.specs.Hydros.{largest_at}
 use Rattle.hydro.proofs.largest_over.Given as goal
 
 abbrev pub invariant-loop-i : goal.invariant-loop-i
-invariant-loop-i l = (l.i ≤ l.hubs - 1) × (l.largest ≡ highest_to (λ k. largest_at l.prices k l.horizon) l.i)
-
-abbrev pub decreases-loop-i : goal.decreases-loop-i
-decreases-loop-i l = l.hubs - l.i
+invariant-loop-i l = (l.i - 1 ≤ l.hubs - 1) × (l.largest ≡ highest_to (λ k. largest_at l.prices k l.horizon) (l.i - 1))

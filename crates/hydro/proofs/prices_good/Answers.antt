@@ -7,7 +7,7 @@ use Rattle.hydro.proofs.prices_good.Goals as goal
 
 pub loop-i-init : goal.loop-i-init
 unfolding prices_good all_to
-loop-i-init c = (omega arith, refl)
+loop-i-init c = refl
 
 pub returns-then-not-hub_good : goal.returns-then-not-hub_good
 unfolding prices_good
@@ -19,4 +19,4 @@ pub loop-i-preserved : goal.loop-i-preserved
 unfolding prices_good
 loop-i-preserved c =
     let a = c.args in
-    (omega arith, all_next (λ k. all_to (λ j. is_hub_price (hub_price a.prices.now k j)) (a.horizon + 2)) c.loop-i.i c.loop-i.invariant.1 (sym c.hub_good.ensures ∙ c.if-not-hub_good.false))
+    all_next (λ k. all_to (λ j. is_hub_price (hub_price a.prices.now k j)) (a.horizon + 2)) c.loop-i.i c.loop-i.invariant (sym c.hub_good.ensures ∙ c.if-not-hub_good.false)

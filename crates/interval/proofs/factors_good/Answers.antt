@@ -13,7 +13,7 @@ is c = c.row_good.ensures ∙ row_good_lem c.args.factors.now c.loop-r.r c.args.
 
 pub loop-r-init : goal.loop-r-init
 unfolding all_to
-loop-r-init c = (omega arith, refl)
+loop-r-init c = refl
 
 pub returns-then-not-row_good : goal.returns-then-not-row_good
 unfolding factors_good
@@ -24,10 +24,10 @@ returns-then-not-row_good c =
 pub loop-r-preserved : goal.loop-r-preserved
 loop-r-preserved c =
     let p = goal.at.loop-r-preserved c in
-    (omega arith, all_next (λ k. row_good c.args.factors.now k c.args.m) c.loop-r.r c.loop-r.invariant.1 (sym (is p.After-row_good) ∙ c.if-not-row_good.false))
+    all_next (λ k. row_good c.args.factors.now k c.args.m) c.loop-r.r c.loop-r.invariant (sym (is p.After-row_good) ∙ c.if-not-row_good.false)
 
 pub returns : goal.returns
 unfolding factors_good
 returns c =
     let e : c.args.n ≡ c.loop-r.r = omega arith in
-    rw e (sym c.loop-r.invariant.1)
+    rw e (sym c.loop-r.invariant)

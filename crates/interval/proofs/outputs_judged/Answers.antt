@@ -27,7 +27,7 @@ can-is c =
 
 pub loop-r-init : goal.loop-r-init
 unfolding all_to
-loop-r-init c = (omega arith, (refl, refl))
+loop-r-init c = (refl, refl)
 
 pub returns-then-not-within-clause-prices : goal.returns-then-not-within-clause-prices
 unfolding all_within
@@ -41,24 +41,21 @@ loop-r-preserved c =
     let x = c.args.outputs.now in
     let r = c.loop-r.r in
     let can_r = can-is p.After-output_good in (
-      omega arith,
-      (
-        all_next (priced x) r c.loop-r.invariant.1.0 (sym (price_is p.After-within) ∙ c.if-not-within.false),
-        elim c.if-not-output_good.branch [
-          | then-not-output_good w ↦ w.good-is ∙ sym (all_fails (can x) (r + 1) r (omega arith) (sym can_r ∙ w.if-not-output_good.true))
-          | else-not-output_good w ↦ w.good-is ∙ c.loop-r.invariant.1.1 ∙ all_kept (can x) r (sym can_r ∙ w.if-not-output_good.false)
-        ],
-      ),
+      all_next (priced x) r c.loop-r.invariant.0 (sym (price_is p.After-within) ∙ c.if-not-within.false),
+      elim c.if-not-output_good.branch [
+        | then-not-output_good w ↦ w.good-is ∙ sym (all_fails (can x) (r + 1) r (omega arith) (sym can_r ∙ w.if-not-output_good.true))
+        | else-not-output_good w ↦ w.good-is ∙ c.loop-r.invariant.1 ∙ all_kept (can x) r (sym can_r ∙ w.if-not-output_good.false)
+      ],
     )
 
 pub returns-clause-prices : goal.returns-clause-prices
 unfolding all_within outputs_good
 returns-clause-prices c =
     let e : c.args.n ≡ c.loop-r.r = omega arith in
-    rw e (sym c.loop-r.invariant.1.0)
+    rw e (sym c.loop-r.invariant.0)
 
 pub returns-clause-outputs : goal.returns-clause-outputs
 unfolding all_within outputs_good
 returns-clause-outputs c =
     let e : c.args.n ≡ c.loop-r.r = omega arith in
-    λ _. rw e c.loop-r.invariant.1.1
+    rw e c.loop-r.invariant.1

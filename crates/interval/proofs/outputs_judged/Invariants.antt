@@ -1,4 +1,4 @@
-use Rattle.std.proofs.Common.{◌≡◌, ◌-◌, ℕ, ◌≤◌, List, Bool, true, pos, neg_ℤ}
+use Rattle.std.proofs.Common.{◌≡◌, ℕ, List, Bool, true, pos, neg_ℤ}
 use Rattle.std.specs.Prelude.{ℤ}
 use Rattle.rules_number.specs.Order.{in_range}
 use Rattle.rules_number.specs.Over.{all_to}
@@ -16,7 +16,4 @@ can outputs r = output_good (cell (outputs_in outputs 2) r) (cell (outputs_in ou
 -- what the resources before r passed
 abbrev pub invariant-loop-r : goal.invariant-loop-r
 invariant-loop-r l =
-    (l.r ≤ l.n) × ((all_to (priced l.outputs) l.r ≡ true) × (l.good ≡ all_to (can l.outputs) l.r))
-
-abbrev pub decreases-loop-r : goal.decreases-loop-r
-decreases-loop-r l = l.n - l.r
+    (all_to (priced l.outputs) l.r ≡ true) × (l.good ≡ all_to (can l.outputs) l.r)

@@ -17,7 +17,7 @@ unfolding all_within
 loop-i-init c =
     let fl = to_z-of_z w64 c.args.lo c.ranges.lo in
     let fh = to_z-of_z w64 c.args.hi c.ranges.hi in
-    (c.requires.0, rw (fl, fh) c.requires.1.1)
+    rw (fl, fh) c.requires.1.1
 
 pub returns-then-not-within : goal.returns-then-not-within
 unfolding all_within
@@ -30,7 +30,7 @@ loop-i-preserved c =
     let p = goal.at.loop-i-preserved c in
     let fl = to_z-of_z w64 c.args.lo c.ranges.lo in
     let fh = to_z-of_z w64 c.args.hi c.ranges.hi in
-    (omega arith, rw (fl, fh) (all_next (λ k. in_range c.args.lo c.args.hi (cell c.args.numbers.now k)) c.loop-i.i (rw (fl, fh) at c.loop-i.invariant.1) (sym (is p.After-within) ∙ c.if-not-within.false)))
+    rw (fl, fh) (all_next (λ k. in_range c.args.lo c.args.hi (cell c.args.numbers.now k)) c.loop-i.i (rw (fl, fh) at c.loop-i.invariant) (sym (is p.After-within) ∙ c.if-not-within.false))
 
 pub returns : goal.returns
 unfolding all_within
@@ -38,4 +38,4 @@ returns c =
     let fl = to_z-of_z w64 c.args.lo c.ranges.lo in
     let fh = to_z-of_z w64 c.args.hi c.ranges.hi in
     let e : c.args.n ≡ c.loop-i.i = omega arith in
-    rw e (sym (rw (fl, fh) at c.loop-i.invariant.1))
+    rw e (sym (rw (fl, fh) at c.loop-i.invariant))

@@ -7,5 +7,5 @@ use Rattle.interval.proofs.shadow_good.Goals as goal
 pub returns : goal.returns
 returns c =
     let a = c.args in
-    let held-is : c.if-shadow-m.held ≡ min (length a.shadow.now) a.m = omega arith in
-    c.all_within.ensures ∙ sym (prices_held a.shadow.now c.if-shadow-m.held a.m (omega arith) (λ i h k. omega arith))
+    let held-is : c.min-held.result ≡ min (length a.shadow.now) a.m = c.min-held.ensures in
+    c.all_within.ensures ∙ sym (prices_held a.shadow.now c.min-held.result a.m (omega arith) (λ i h k. omega arith))

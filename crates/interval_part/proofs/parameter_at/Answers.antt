@@ -16,7 +16,7 @@ returns-in_default-clause-result_value c =
 pub returns-clause-result_value : goal.returns-clause-result_value
 returns-clause-result_value c =
     let a = c.args in
-    sym (parameter_missing a.n (lines (drop a.at a.s.now)) (a.n + 1) (lines (drop c.in-At.next a.s.now)) (past_names "-\n" (found (pos 0)) a.n a.s.now a.at refl c.in-At.next c.in-At.ensures))
+    sym (parameter_missing a.n (lines (drop a.at a.s.now)) (a.n + 1) (lines (drop c.in-Some.next a.s.now)) (past_names "-\n" (found (pos 0)) a.n a.s.now a.at refl c.in-Some.next c.in-Some.ensures))
 
 pub returns-clause-next_value : goal.returns-clause-next_value
-returns-clause-next_value c = let a = c.args in (used_names "-\n" a.s.now a.n a.at refl c.in-At.next c.in-At.ensures).offset
+returns-clause-next_value c = let a = c.args in (used_names "-\n" a.s.now a.n a.at refl c.in-Some.next c.in-Some.ensures).offset

@@ -11,17 +11,17 @@ few_cells : (l : List ℤ) (n k : ℕ) → n ≡ nat_of (cell_at l market_from) 
 unfolding market_in
 few_cells l n k e h = (omega arith, omega arith)
 
-pub part_into-requires-clause-room : goal.part_into-requires-clause-room
-part_into-requires-clause-room c =
+pub part_with-requires : goal.part_with-requires
+part_with-requires c =
     let r = few_cells c.args.state.now c.whole_at-n.result 1 c.whole_at-n.ensures c.if-n-le-ONE_RESOURCE.true in
-    (r.0, (r.1, omega arith))
+    (r.0, (r.1, (omega arith, omega arith)))
 
-pub part_into-requires-then-n-le-FEW_RESOURCES-clause-room : goal.part_into-requires-then-n-le-FEW_RESOURCES-clause-room
-part_into-requires-then-n-le-FEW_RESOURCES-clause-room c =
+pub part_with-requires-then-n-le-FEW_RESOURCES : goal.part_with-requires-then-n-le-FEW_RESOURCES
+part_with-requires-then-n-le-FEW_RESOURCES c =
     let r = few_cells c.args.state.now c.whole_at-n.result 8 c.whole_at-n.ensures c.if-n-le-FEW_RESOURCES.true in
-    (r.0, (r.1, omega arith))
+    (r.0, (r.1, (omega arith, omega arith)))
 
-pub part_into-requires-then-n-le-HALF_RESOURCES-clause-room : goal.part_into-requires-then-n-le-HALF_RESOURCES-clause-room
-part_into-requires-then-n-le-HALF_RESOURCES-clause-room c =
+pub part_with-requires-then-n-le-HALF_RESOURCES : goal.part_with-requires-then-n-le-HALF_RESOURCES
+part_with-requires-then-n-le-HALF_RESOURCES c =
     let r = few_cells c.args.state.now c.whole_at-n.result 32 c.whole_at-n.ensures c.if-n-le-HALF_RESOURCES.true in
-    (r.0, (r.1, omega arith))
+    (r.0, (r.1, (omega arith, omega arith)))

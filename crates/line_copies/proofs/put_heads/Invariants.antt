@@ -1,10 +1,6 @@
--- What the loop of `line_copies::put_heads` keeps, and its measure.
-use Rattle.std.proofs.Common.{◌-◌, length}
+-- What the loop of `line_copies::put_heads` keeps.
 use Rattle.line_copies.proofs.HeadLaws.{Heading}
 use Rattle.line_copies.proofs.put_heads.Given as goal
 
 abbrev pub invariant-loop-k : goal.invariant-loop-k
 invariant-loop-k l = Heading l.fn.page l.at l.n l.widths l.base l.first l.page l.p l.k
-
-abbrev pub decreases-loop-k : goal.decreases-loop-k
-decreases-loop-k l = length l.widths - l.k

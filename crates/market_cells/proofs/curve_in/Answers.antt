@@ -18,17 +18,15 @@ by_fields e f g = cc
 
 pub loop-k-init : goal.loop-k-init
 unfolding padded listed
-loop-k-init c = record { within = omega arith; filled = refl }
+loop-k-init c = refl
 
 pub loop-k-preserved : goal.loop-k-preserved
-loop-k-preserved c = record {
-  within = omega arith;
-  filled = filled_next most_steps blank_step (step_in c.args.state.now c.args.from) c.loop-k.steps c.loop-k.k _ (omega arith) c.loop-k.invariant.filled
-      (by_cells c.whole_at-end.ensures (came c.cell_at-price.result c.cell_at-price.type_inv ∙ c.cell_at-price.ensures));
-}
+loop-k-preserved c =
+    filled_next most_steps blank_step (step_in c.args.state.now c.args.from) c.loop-k.step-items c.loop-k.k _ (omega arith) c.loop-k.invariant
+    (by_cells c.whole_at.ensures (came c.cell_at.result c.cell_at.type_inv ∙ c.cell_at.ensures))
 
 pub returns : goal.returns
 unfolding curve_in_cells
 returns c =
-    by_fields c.whole_at-start.ensures c.whole_at-count.ensures
-    (filled most_steps blank_step (step_in c.args.state.now c.args.from) c.loop-k.steps c.loop-k.k (omega arith) (omega arith) c.loop-k.invariant.filled)
+    by_fields c.whole_at-2.ensures c.whole_at-3.ensures
+    (filled most_steps blank_step (step_in c.args.state.now c.args.from) c.loop-k.step-items c.loop-k.k (omega arith) (omega arith) c.loop-k.invariant)

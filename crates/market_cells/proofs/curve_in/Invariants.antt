@@ -1,5 +1,5 @@
 -- What the loop of `market_cells::curve_in` keeps: the steps before its index are those that the cells give.
-use Rattle.std.proofs.Common.{◌≡◌, ℕ, ◌+◌, ◌-◌, ◌≤◌, List, ℤ}
+use Rattle.std.proofs.Common.{◌≡◌, ℕ, ◌+◌, List, ℤ}
 use Rattle.rules_number.specs.Order.{nat_of}
 use Rattle.rules_number.specs.Over.{listed, padded}
 use Rattle.rules_curve.specs.Curves.{most_steps, blank_step, step_to}
@@ -11,7 +11,4 @@ abbrev pub step_in : List ℤ → ℕ → ℕ → Step
 step_in l from k = step_to (nat_of (cell_at l (from + 2 + k))) (cell_at l (from + 2 + most_steps + k))
 
 abbrev pub invariant-loop-k : goal.invariant-loop-k
-invariant-loop-k l = record { within : l.k ≤ most_steps; filled : l.steps ≡ padded most_steps blank_step (listed (step_in l.state l.from) l.k) }
-
-abbrev pub decreases-loop-k : goal.decreases-loop-k
-decreases-loop-k l = most_steps - l.k
+invariant-loop-k l = l.step-items ≡ padded most_steps blank_step (listed (step_in l.state l.from) l.k)

@@ -1,5 +1,5 @@
--- What the loop of `mitigated_cells::is_under` keeps, and its measure.
-use Rattle.std.proofs.Common.{◌-◌, ◌≤◌, drop}
+-- What the loop of `mitigated_cells::is_under` keeps.
+use Rattle.std.proofs.Common.{◌≤◌, drop}
 use Rattle.rules_curve.specs.Curves.{bid_steps}
 use Rattle.rules_state.specs.States.{curve_in_cells}
 use Rattle.mitigated_cells.proofs.UncutLaws.{Under}
@@ -8,6 +8,3 @@ use Rattle.mitigated_cells.proofs.is_under.Given as goal
 -- what lies under the end from here on suffices
 abbrev pub invariant-loop-i : goal.invariant-loop-i
 invariant-loop-i l = (Under l.top l.at (drop l.i (bid_steps (curve_in_cells l.row 0))) → Under l.top (curve_in_cells l.row 0).start (bid_steps (curve_in_cells l.row 0))) × (l.i ≤ l.bids)
-
-abbrev pub decreases-loop-i : goal.decreases-loop-i
-decreases-loop-i l = l.bids - l.i

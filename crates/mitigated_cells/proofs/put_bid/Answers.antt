@@ -1,5 +1,5 @@
 -- Goals of `mitigated_cells::put_bid` that the search leaves. Assumes nothing.
-use Rattle.std.proofs.Common.{◌≡◌, ◌<◌, ◌≤◌, List, length, sym, ◌∙◌, arith, rules}
+use Rattle.std.proofs.Common.{◌≡◌, ◌<◌, ◌≤◌, List, length, refl, sym, ◌∙◌, arith, rules}
 use Rattle.std.proofs.Math.IntN.{ℤ}
 use mir.Syntax.{w64}
 use mir.Val.{SFits}
@@ -26,22 +26,16 @@ loop-i-preserved c =
     let f : SFits w64 c.cell_in-price.result = search rules in
     let price : rd c.cell_in-price.result ≡ (step_in a.row.now 0 l.i).price = came c.cell_in-price.result f.sfits ∙ c.cell_in-price.ensures in
     let g = c.place-k.ensures in
-    putting_next (bids_in a.row.now) a.ends.now a.prices.now l.ends l.prices _ l.i l.n l.invariant
+    putting_next (bids_in a.row.now) a.steps.now l.steps _ l.i l.n l.invariant
     c.place-k.result c.whole_in-end.result (rd c.cell_in-price.result) h (bid_step_at a.row.now 0 l.i h ∙ ap₂ step_to (sym c.whole_in-end.ensures) (sym price))
-    c.put_step.new.ends c.put_step.new.prices c.put_step.ensures.ends c.put_step.ensures.prices g.value g.result_value g.value_2 g.upper_bound
+    _ refl g.value g.result_value g.value_2 g.upper_bound
 
-ended : (c : After-loop-i) → Ended (joined (bids_in c.args.row.now)) c.args.ends.now c.args.prices.now c.loop-i.ends c.loop-i.prices c.loop-i.n
+ended : (c : After-loop-i) → Ended (joined (bids_in c.args.row.now)) c.args.steps.now c.loop-i.steps c.loop-i.n
 ended c =
     let a = c.args in
     let l = c.loop-i in
     let n : length (bids_in a.row.now) ≤ l.i = omega (arith, c.loop-i-test.false, c.count_in-bids.ensures, bid_length a.row.now 0) in
-    putting_ended (bids_in a.row.now) a.ends.now a.prices.now l.ends l.prices _ l.i l.n l.invariant n
+    putting_ended (bids_in a.row.now) a.steps.now l.steps _ l.i l.n l.invariant n
 
-pub returns-clause-count : goal.returns-clause-count
-returns-clause-count c = (ended (goal.at.returns-clause-count c).After-loop-i).count
-
-pub returns-clause-ends : goal.returns-clause-ends
-returns-clause-ends c = (ended (goal.at.returns-clause-ends c).After-loop-i).ends_are
-
-pub returns-clause-prices : goal.returns-clause-prices
-returns-clause-prices c = (ended (goal.at.returns-clause-prices c).After-loop-i).prices_are
+pub returns : goal.returns
+returns c = let e = ended (goal.at.returns c).After-loop-i in record { count = e.count; steps = e.steps_are }

@@ -9,7 +9,7 @@ use Rattle.mitigated_cells.proofs.put_steps.Given as goal
 
 abbrev pub invariant-loop-i : goal.invariant-loop-i
 invariant-loop-i l =
-    Walking (capped (floor_of l.mark l.floor).price) (bid_steps (curve_in_cells l.row 0)) (steps_of (curve_in_cells l.row curve_room)) (curve_in_cells l.row 0).start l.fn.ends l.fn.prices l.ends l.prices l.at l.last l.i l.j l.n
+    Walking (capped (floor_of l.mark l.floor).price) (bid_steps (curve_in_cells l.row 0)) (steps_of (curve_in_cells l.row curve_room)) (curve_in_cells l.row 0).start l.fn.steps l.steps l.at l.last l.i l.j l.n
 
 abbrev pub decreases-loop-i : goal.decreases-loop-i
 decreases-loop-i l = (l.bids - l.i) + (l.defaults - l.j)

@@ -11,8 +11,8 @@ use Rattle.mitigation.proofs.divided.Goals as goal
 pub loop-i-init : goal.loop-i-init
 loop-i-init c = walked_start _ _ _ _
 
-pub returns-then-nd-j : goal.returns-then-nd-j
-returns-then-nd-j c = walked_default_end _ _ _ _ _ _ _ _ _ c.loop-i.invariant (omega arith)
+pub returns-else-j-nd : goal.returns-else-j-nd
+returns-else-j-nd c = walked_default_end _ _ _ _ _ _ _ _ _ c.loop-i.invariant (omega arith)
 
 pub loop-i-preserved-then-d-at : goal.loop-i-preserved-then-d-at
 loop-i-preserved-then-d-at c =
@@ -54,5 +54,5 @@ loop-i-preserved c =
     walked_bid _ _ _ _ _ _ _ _ _ blank_step _ _ l.invariant hi hj (bid_at_lem a.bid _ hi) (taken_at a.default.count a.default.steps _ blank_step hj)
     room _ cut c.if-d-at.false c.if-d-b.false
 
-pub returns : goal.returns
-returns c = walked_bid_end _ _ _ _ _ _ _ _ _ c.loop-i.invariant (omega arith)
+pub returns-after-loop-i : goal.returns-after-loop-i
+returns-after-loop-i c = walked_bid_end _ _ _ _ _ _ _ _ _ c.loop-i.invariant (omega arith)

@@ -6,7 +6,7 @@ use Rattle.mitigation.proofs.Walk.{Walked}
 use Rattle.mitigation.proofs.divided.Given as goal
 
 abbrev pub invariant-loop-i : goal.invariant-loop-i
-invariant-loop-i l = Walked (capped l.floor) (bid_steps l.bid) (steps_of l.default) l.start l.steps l.at l.i l.j l.n
+invariant-loop-i l = Walked (capped l.floor) (bid_steps l.bid) (steps_of l.default) l.bid.start l.steps l.at l.i l.j l.n
 
 abbrev pub decreases-loop-i : goal.decreases-loop-i
 decreases-loop-i l = (l.nb - l.i) + (l.nd - l.j)

@@ -9,6 +9,7 @@ use Rattle.rules_curve.specs.Curves.{blank_step}
 use Rattle.rules_mitigation.specs.Mitigation.{used_steps}
 use Rattle.mitigation.proofs.Walk.{joining_start, joining_same, joining_other, joining_end, joined_none}
 use Rattle.mitigation.proofs.merged.Goals as goal
+use Rattle.mitigation.proofs.merged.Goals.{then-last-step, else-last-step}
 
 pub returns-then-used-eq0 : goal.returns-then-used-eq0
 unfolding padded
@@ -20,21 +21,19 @@ loop-i-init c =
     let h : 0 < length (used_steps s) = omega arith in
     joining_start _ blank_step _ h (taken_at s.count s.steps 0 blank_step h)
 
-pub loop-i-preserved-then-last-s : goal.loop-i-preserved-then-last-s
-loop-i-preserved-then-last-s c =
-    let s = c.args.curve in
-    let l = c.loop-i in
-    let h : l.i < length (used_steps s) = omega arith in
-    let fl : SFits w64 l.last.price = search rules in
-    let fs : SFits w64 (get_or s.steps l.i blank_step).price = search rules in
-    joining_same _ _ _ _ _ l.invariant blank_step _ h (taken_at s.count s.steps _ blank_step h) (bits_same _ _ fl fs c.if-last-s.true)
-
 pub loop-i-preserved : goal.loop-i-preserved
 loop-i-preserved c =
     let s = c.args.curve in
     let l = c.loop-i in
+    let x = get_or s.steps l.i blank_step in
     let h : l.i < length (used_steps s) = omega arith in
-    joining_other _ _ _ _ _ l.invariant blank_step _ h (taken_at s.count s.steps _ blank_step h) (eq_z_other l.last.price (get_or s.steps l.i blank_step).price (λ x. c.if-last-s.false (ap (of_z w64) x))) (omega arith)
+    let e = taken_at s.count s.steps l.i blank_step h in
+    let fl : SFits w64 l.last.price = search rules in
+    let fs : SFits w64 x.price = search rules in
+    elim c.if-last-step.branch [
+      | then-last-step w ↦ rw (w.steps-is, w.n-is) (joining_other _ _ _ _ _ l.invariant blank_step _ h e (eq_z_other l.last.price x.price (λ y. w.if-last-step.true (ap (of_z w64) y))) (omega arith))
+      | else-last-step w ↦ rw (w.steps-is, w.n-is) (joining_same _ _ _ _ _ l.invariant blank_step _ h e (bits_same _ _ fl fs w.if-last-step.false))
+    ]
 
 pub returns : goal.returns
 returns c = joining_end _ _ _ _ _ c.loop-i.invariant _ (omega arith) (omega arith)

@@ -30,6 +30,6 @@ returns c =
     let asked = default_in a.state.now a.r in
     let w = written (room a.state.now a.edges.now a.prices.now) 0 (sets a.edges.now 0 (edges_of asked)) a.edges.now (sets a.prices.now 0 (prices_of asked)) a.prices.now
     (sym c.has_room.ensures ∙ c.if-not-has_room.false) refl
-    c.put_default.new.edges (c.put_default.ensures.edges ∙ ap (λ (y : Row). sets a.edges.now 0 (edges_of y.default)) c.row_in-row.ensures)
-    c.put_default.new.prices (c.put_default.ensures.prices ∙ ap (λ (y : Row). sets a.prices.now 0 (prices_of y.default)) c.row_in-row.ensures) in
+    c.put_default.new.edges (c.put_default.ensures.edges ∙ ap (λ (y : Row). sets a.edges.now 0 (edges_of y.default)) c.row_in.ensures)
+    c.put_default.new.prices (c.put_default.ensures.prices ∙ ap (λ (y : Row). sets a.prices.now 0 (prices_of y.default)) c.row_in.ensures) in
     record { answer = w.0; edges = w.1.0; prices = w.1.1 }

@@ -11,7 +11,7 @@ pub returns : goal.returns
 unfolding tally_in
 returns c =
     let l = c.args.cells.now in
-    ap₂ (λ (x y : List ℕ). tally_with (get_or l 0 0) (get_or l 1 0) x y) c.masks_in-bound.ensures c.masks_in-noncompetitive.ensures
+    ap₂ (λ (x y : List ℕ). tally_with (get_or l 0 0) (get_or l 1 0) x y) c.masks_in.ensures c.masks_in-2.ensures
   where
     tally_with : ℕ → ℕ → List ℕ → List ℕ → Tally
     tally_with d n b m = record { days = d; last = n; bound = b; noncompetitive = m }

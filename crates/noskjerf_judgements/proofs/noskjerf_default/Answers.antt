@@ -1,6 +1,7 @@
 -- `noskjerf_judgements::noskjerf_default` meets its contract. Assumes nothing.
 use mathlib.Core.Path.{ap, ◌∙◌}
-use Rattle.rules_curve.specs.Curves.{unless_refused}
+use Rattle.std.specs.Result.{result_unwrap_or}
+use Rattle.rules_curve.specs.Curves.{unless_refused, blank_curve}
 use Rattle.rules_curve.specs.Refusals.{outcome_number}
 use Rattle.rules_cost.specs.Costs.{cost_refusal, cost_curve}
 use Rattle.rules_cost.specs.declared.Costs.{Costs}
@@ -18,7 +19,7 @@ written c =
     let i = c.costs_in.ensures in
     let costs = costs_in c.args.count c.args.points.now c.args.charges.now in
     put_costs c.args.edges.now c.args.prices.now costs r.result r.new.edges r.new.prices
-    (put_same c.args.edges.now c.args.prices.now (outcome_number d.result.outcome) (cost_refusal costs) d.result.curve (unless_refused (cost_refusal costs) (cost_curve costs))
+    (put_same c.args.edges.now c.args.prices.now (outcome_number d.result) (cost_refusal costs) (result_unwrap_or d.result blank_curve) (unless_refused (cost_refusal costs) (cost_curve costs))
     (d.ensures.number ∙ ap cost_refusal i) (d.ensures.curve ∙ ap (λ (k : Costs). unless_refused (cost_refusal k) (cost_curve k)) i) r.result r.new.edges r.new.prices
     (r.ensures.answer, (r.ensures.edges, r.ensures.prices)))
 

@@ -7,7 +7,6 @@ use lib.Seq.{sets}
 use mir.Facts.{to_z_pos}
 use mir.Syntax.{w64}
 use Rattle.rules_number.proofs.Kit.{came}
-use Rattle.rules_curve.specs.Refusals.{outcome_number}
 use Rattle.rules_curve.proofs.RefusalLaws.{told_number}
 use Rattle.rules_interval.specs.declared.Interval.{Interval}
 use Rattle.rules_path.specs.declared.Market.{Market}
@@ -20,55 +19,53 @@ use Rattle.interval.specs.Over.{interval_over}
 use Rattle.cutting.proofs.AlikeLaws.{Alike, over_alike}
 use Rattle.noskjerf_pivotal.proofs.PivotalLaws.{refusals_alike, results_alike, few_cells, few_found, refused, written}
 use Rattle.noskjerf_pivotal.proofs.noskjerf_pivotal.Goals as goal
-use Rattle.noskjerf_pivotal.proofs.noskjerf_pivotal.Goals.{Then-state-lt-STATE_ROOM, Then-found-lt-FOUND_ROOM, After-found-answer, After-refusal_number, After-best_number}
+use Rattle.noskjerf_pivotal.proofs.noskjerf_pivotal.Goals.{Start}
 
--- what the search tells
-module _ (k : After-found-answer) where
+module _ (s : Start) where
   -- the interval that is asked for, as it is lent and as it is read
   abbrev lent : Interval
-  lent = interval_over k.args.constraints k.args.shadow.now k.args.resources k.args.outputs.now k.args.factors.now k.args.parameter
+  lent = interval_over s.args.constraints s.args.shadow.now s.args.resources s.args.outputs.now s.args.factors.now s.args.parameter
 
   abbrev asked : Interval
-  asked = interval_in k.args.constraints k.args.shadow.now k.args.resources k.args.outputs.now k.args.factors.now k.args.parameter
+  asked = interval_in s.args.constraints s.args.shadow.now s.args.resources s.args.outputs.now s.args.factors.now s.args.parameter
 
   abbrev known : Market
-  known = market_in k.args.state.now
+  known = market_in s.args.state.now
 
   alike : Alike known.resources lent asked
-  alike = over_alike known.resources k.args.constraints k.args.shadow.now k.args.resources k.args.outputs.now k.args.factors.now k.args.parameter
+  alike = over_alike known.resources s.args.constraints s.args.shadow.now s.args.resources s.args.outputs.now s.args.factors.now s.args.parameter
 
-  numbered : pivotal_refusal known asked ≡ outcome_number k.found-answer.result.outcome
-  numbered = sym (simp (came k.args.parameter k.ranges.parameter.sfits) at k.found-answer.ensures.number ∙ refusals_alike known lent asked alike)
+  numbered : pivotal_refusal known lent ≡ pivotal_refusal known asked
+  numbered = refusals_alike known lent asked alike
 
-  result-is : k.found-answer.result.found ≡ pivotal_of known asked k.args.budget
-  result-is = simp (came k.args.parameter k.ranges.parameter.sfits) at k.found-answer.ensures.found ∙ results_alike known lent asked alike k.args.budget
+  result-is : pivotal_of known lent s.args.budget ≡ pivotal_of known asked s.args.budget
+  result-is = results_alike known lent asked alike s.args.budget
 
 pub returns-then-state-lt-STATE_ROOM : goal.returns-then-state-lt-STATE_ROOM
 returns-then-state-lt-STATE_ROOM c =
-    let a = interval_in c.args.constraints c.args.shadow.now c.args.resources c.args.outputs.now c.args.factors.now c.args.parameter in
+    let a = asked (goal.at.returns-then-state-lt-STATE_ROOM c).Start in
     let w = few_cells c.args.state.now c.args.found.now a c.args.budget c.if-state-lt-STATE_ROOM.true in
     record { answer = w.0; found = w.1 }
 
 pub returns-then-found-lt-FOUND_ROOM : goal.returns-then-found-lt-FOUND_ROOM
 returns-then-found-lt-FOUND_ROOM c =
-    let a = interval_in c.args.constraints c.args.shadow.now c.args.resources c.args.outputs.now c.args.factors.now c.args.parameter in
+    let a = asked (goal.at.returns-then-found-lt-FOUND_ROOM c).Start in
     let w = few_found c.args.state.now c.args.found.now a c.args.budget c.if-state-lt-STATE_ROOM.false c.if-found-lt-FOUND_ROOM.true in
     record { answer = w.0; found = w.1 }
 
-pub returns-in-Refused : goal.returns-in-Refused
-returns-in-Refused c =
-    let k = (goal.at.returns-in-Refused c).After-found-answer in
-    let small = told_number c.in-Refused.refusal c.refusal_number.result c.refusal_number.ensures in
-    let n = numbered k ∙ ap outcome_number c.in-Refused.is ∙ sym c.refusal_number.ensures in
-    let w = refused c.args.state.now c.args.found.now (asked k) c.args.budget c.if-state-lt-STATE_ROOM.false c.if-found-lt-FOUND_ROOM.false c.refusal_number.result small.0 n in
+pub returns-in-Err : goal.returns-in-Err
+returns-in-Err c =
+    let s = (goal.at.returns-in-Err c).Start in
+    let small = told_number c.in-Err.refusal c.refusal_number.result c.refusal_number.ensures in
+    let n = sym (c.refusal_number.ensures ∙ (simp (came c.args.parameter c.ranges.parameter.sfits) at c.in-Err.ensures.number) ∙ numbered s) in
+    let w = refused c.args.state.now c.args.found.now (asked s) c.args.budget c.if-state-lt-STATE_ROOM.false c.if-found-lt-FOUND_ROOM.false c.refusal_number.result small.0 n in
     record { answer = to_z_pos w64 {n = c.refusal_number.result} (omega (arith, small.1)) ∙ w.0; found = w.1 }
 
-pub returns : goal.returns
-returns c =
-    let k = (goal.at.returns c).After-found-answer in
-    let n = numbered k ∙ ap outcome_number c.in_default.is in
-    let r = c.found-answer.result.found in
-    let w = written c.args.state.now c.args.found.now (asked k) c.args.budget c.if-state-lt-STATE_ROOM.false c.if-found-lt-FOUND_ROOM.false n _
+pub returns-in-Ok : goal.returns-in-Ok
+returns-in-Ok c =
+    let s = (goal.at.returns-in-Ok c).Start in
+    let r = c.in-Ok.result in
+    let w = written c.args.state.now c.args.found.now (asked s) c.args.budget c.if-state-lt-STATE_ROOM.false c.if-found-lt-FOUND_ROOM.false (sym ((simp (came c.args.parameter c.ranges.parameter.sfits) at c.in-Ok.ensures.number) ∙ numbered s)) _
     (ap (λ (b : ℕ). set (set (set c.args.found.now 0 b) 1 r.tried) 2 r.floor) c.best_number.ensures
-    ∙ ap (λ (x : Pivotal). sets c.args.found.now 0 (found_cells x)) (result-is k)) in
+    ∙ ap (λ (x : Pivotal). sets c.args.found.now 0 (found_cells x)) ((simp (came c.args.parameter c.ranges.parameter.sfits) at c.in-Ok.ensures.found) ∙ result-is s)) in
     record { answer = w.0; found = w.1 }

@@ -13,7 +13,7 @@ good sellers p = is_mark (cell sellers p)
 
 pub loop-p-init : goal.loop-p-init
 unfolding all_to
-loop-p-init c = (omega arith, refl)
+loop-p-init c = refl
 
 pub returns-then-not-within : goal.returns-then-not-within
 returns-then-not-within c =
@@ -27,4 +27,4 @@ loop-p-preserved c =
     let a = c.args in
     let f : rd c.mark_at.result ≡ c.mark_at.result = search rules in
     let is : c.within.result ≡ good a.sellers.now c.loop-p.p = rw (f, c.mark_at.ensures) at c.within.ensures in
-    (omega arith, all_next (good a.sellers.now) c.loop-p.p c.loop-p.invariant.1 (sym is ∙ c.if-not-within.false))
+    all_next (good a.sellers.now) c.loop-p.p c.loop-p.invariant (sym is ∙ c.if-not-within.false)

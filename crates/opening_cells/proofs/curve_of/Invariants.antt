@@ -1,5 +1,5 @@
 -- `opening_cells::curve_of`: the first k steps are filled.
-use Rattle.std.proofs.Common.{◌≡◌, ◌≤◌, ◌-◌}
+use Rattle.std.proofs.Common.{◌≡◌}
 use Rattle.rules_number.specs.Order.{nat_of}
 use Rattle.rules_number.specs.Over.{listed, padded}
 use Rattle.rules_curve.specs.Curves.{most_steps, blank_step, step_of}
@@ -10,7 +10,4 @@ use Rattle.opening_cells.proofs.curve_of.Given as goal
 
 abbrev pub invariant-loop-k : goal.invariant-loop-k
 invariant-loop-k l =
-    (l.k ≤ l.n) × (l.curve ≡ curve_cells (curve_from (nat_of l.start) l.n (padded most_steps blank_step (listed (λ j. step_of (raw_step_at l.steps j)) l.k))))
-
-abbrev pub decreases-loop-k : goal.decreases-loop-k
-decreases-loop-k l = l.n - l.k
+    l.curve ≡ curve_cells (curve_from (nat_of l.raw.start) l.raw.count (padded most_steps blank_step (listed (λ j. step_of (raw_step_at l.raw.steps.now j)) l.k)))

@@ -18,21 +18,20 @@ over most c l h = rw (le-leb 1 c.count l, lt-leb c.count most h)
 within : (most : ℕ) (c : RawCurve) → 1 ≤ c.count → c.count ≤ most → count_good most c ≡ true
 within most c l h = rw (le-leb 1 c.count l, le-leb c.count most h)
 
-pub returns-then-n-eq0 : goal.returns-then-n-eq0
-returns-then-n-eq0 c =
-    let raw = raw_bid c.args.start c.args.n c.args.steps.now in
-    sym (refused_count c.args.most c.args.low c.args.top raw (rw c.if-n-eq0.true))
+pub returns-then-raw-eq0 : goal.returns-then-raw-eq0
+returns-then-raw-eq0 c =
+    let raw = raw_bid c.args.raw.now.start c.args.raw.now.count c.args.raw.now.steps.now in
+    sym (refused_count c.args.most c.args.low c.args.top raw (rw c.if-raw-eq0.true))
 
-pub returns-then-most-n : goal.returns-then-most-n
-returns-then-most-n c =
-    let raw = raw_bid c.args.start c.args.n c.args.steps.now in
+pub returns-then-most-raw : goal.returns-then-most-raw
+returns-then-most-raw c =
+    let raw = raw_bid c.args.raw.now.start c.args.raw.now.count c.args.raw.now.steps.now in
     sym (refused_count c.args.most c.args.low c.args.top raw (over c.args.most raw (omega arith) (omega arith)))
 
 pub returns-then-not-edges_good : goal.returns-then-not-edges_good
 returns-then-not-edges_good c =
-    let raw = raw_bid c.args.start c.args.n c.args.steps.now in
-    let edges_are = rw (came c.args.start c.ranges.start.sfits) at c.edges_good.ensures in
-    sym (refused_edge c.args.most c.args.low c.args.top raw (within c.args.most raw (omega arith) (omega arith)) (sym edges_are ∙ c.if-not-edges_good.true))
+    let raw = raw_bid c.args.raw.now.start c.args.raw.now.count c.args.raw.now.steps.now in
+    sym (refused_edge c.args.most c.args.low c.args.top raw (within c.args.most raw (omega arith) (omega arith)) (sym c.edges_good.ensures ∙ c.if-not-edges_good.true))
 
 pub prices_good-requires : goal.prices_good-requires
 prices_good-requires c =
@@ -40,16 +39,14 @@ prices_good-requires c =
 
 pub returns-then-not-prices_good : goal.returns-then-not-prices_good
 returns-then-not-prices_good c =
-    let raw = raw_bid c.args.start c.args.n c.args.steps.now in
-    let edges_are = rw (came c.args.start c.ranges.start.sfits) at c.edges_good.ensures in
-    let edges = sym edges_are ∙ c.if-not-edges_good.false in
+    let raw = raw_bid c.args.raw.now.start c.args.raw.now.count c.args.raw.now.steps.now in
+    let edges = sym c.edges_good.ensures ∙ c.if-not-edges_good.false in
     let prices_are = rw (came c.args.low c.ranges.low.sfits, came c.args.top c.ranges.top.sfits) at c.prices_good.ensures in
     sym (refused_price c.args.most c.args.low c.args.top raw (within c.args.most raw (omega arith) (omega arith)) edges (sym prices_are ∙ c.if-not-prices_good.true))
 
 pub returns : goal.returns
 returns c =
-    let raw = raw_bid c.args.start c.args.n c.args.steps.now in
-    let edges_are = rw (came c.args.start c.ranges.start.sfits) at c.edges_good.ensures in
-    let edges = sym edges_are ∙ c.if-not-edges_good.false in
+    let raw = raw_bid c.args.raw.now.start c.args.raw.now.count c.args.raw.now.steps.now in
+    let edges = sym c.edges_good.ensures ∙ c.if-not-edges_good.false in
     let prices_are = rw (came c.args.low c.ranges.low.sfits, came c.args.top c.ranges.top.sfits) at c.prices_good.ensures in
     sym (taken_curve c.args.most c.args.low c.args.top raw (within c.args.most raw (omega arith) (omega arith)) edges (sym prices_are ∙ c.if-not-prices_good.false))

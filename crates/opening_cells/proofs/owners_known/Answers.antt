@@ -24,7 +24,7 @@ good blocks portfolios r = is_known portfolios (owner blocks r)
 
 pub loop-r-init : goal.loop-r-init
 unfolding all_to
-loop-r-init c = (omega arith, refl)
+loop-r-init c = refl
 
 pub returns-then-portfolio-lt0 : goal.returns-then-portfolio-lt0
 returns-then-portfolio-lt0 c =
@@ -48,4 +48,4 @@ loop-r-preserved c =
     let z = owner c.args.blocks.now c.loop-r.r in
     let e : good c.args.blocks.now c.args.portfolios c.loop-r.r ≡ true =
     rw (not_lt_le z (pos 0) (rw (read) at c.if-portfolio-lt0.false), not_le_lt (pos c.args.portfolios) z (rw (read, f) at c.if-known-portfolio.false)) in
-    (omega arith, all_next (good c.args.blocks.now c.args.portfolios) c.loop-r.r c.loop-r.invariant.1 e)
+    all_next (good c.args.blocks.now c.args.portfolios) c.loop-r.r c.loop-r.invariant e

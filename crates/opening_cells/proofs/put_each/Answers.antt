@@ -2,7 +2,6 @@
 use Prim.Native.Nat.{ℕ, ◌*◌}
 use mathlib.Core.List.{List}
 use mathlib.Core.Path.{refl, ap}
-use native.Mathlib.Omega.{arith}
 use lib.IntN.{ℤ}
 use Rattle.rules_number.specs.Order.{nat_of}
 use Rattle.rules_number.specs.Over.{listed}
@@ -17,11 +16,8 @@ cell_by numbers width k = cell_of (nat_of (cell_at numbers (width * k)))
 
 pub loop-k-init : goal.loop-k-init
 unfolding listed
-loop-k-init c = (omega arith, refl)
+loop-k-init c = refl
 
 pub loop-k-preserved : goal.loop-k-preserved
 loop-k-preserved c =
-    let out = c.put_whole.ensures in (
-      omega arith,
-      listed_put c.args.state.now c.args.at (cell_by c.args.numbers.now c.args.width) c.loop-k.state _ c.loop-k.k _ c.loop-k.invariant.1 (ap cell_of c.whole_at.ensures) out,
-    )
+    listed_put c.args.state.now c.args.at (cell_by c.args.numbers.now c.args.width) c.loop-k.state _ c.loop-k.k _ c.loop-k.invariant (ap cell_of c.whole_at.ensures) c.put_whole.ensures

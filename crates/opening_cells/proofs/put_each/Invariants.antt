@@ -1,5 +1,5 @@
 -- `opening_cells::put_each`: the first k numbers are put.
-use Rattle.std.proofs.Common.{◌≡◌, ◌≤◌, ◌-◌, ◌*◌}
+use Rattle.std.proofs.Common.{◌≡◌, ◌*◌}
 use Rattle.std.proofs.lemmas.List.Edits.{sets}
 use Rattle.rules_number.specs.Order.{nat_of}
 use Rattle.rules_number.specs.Over.{listed}
@@ -8,7 +8,4 @@ use Rattle.rules_state.specs.States.{cell_of}
 use Rattle.opening_cells.proofs.put_each.Given as goal
 
 abbrev pub invariant-loop-k : goal.invariant-loop-k
-invariant-loop-k l = (l.k ≤ l.n) × (l.state ≡ sets l.initial.state l.at (listed (λ k. cell_of (nat_of (cell_at l.numbers (l.width * k)))) l.k))
-
-abbrev pub decreases-loop-k : goal.decreases-loop-k
-decreases-loop-k l = l.n - l.k
+invariant-loop-k l = l.state ≡ sets l.initial.state l.at (listed (λ k. cell_of (nat_of (cell_at l.numbers (l.width * k)))) l.k)

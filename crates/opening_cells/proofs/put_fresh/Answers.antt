@@ -8,6 +8,7 @@ use Rattle.opening_cells.proofs.put_fresh.Goals as goal
 
 pub returns : goal.returns
 returns c =
-    let n : c.args.resources ≤ most_resources = omega arith in
-    let k : c.args.portfolios ≤ most_portfolios = omega arith in
-    fresh_made (pos 0) c.args.portfolios c.args.sellers.now c.args.resources c.args.blocks.now n k c.args.state.now _ _ _ _ c.clear.ensures c.put_whole.ensures c.put_each.ensures c.put_each-2.ensures
+    let g = c.args.given.now in
+    let n : g.resources ≤ most_resources = omega arith in
+    let k : g.portfolios ≤ most_portfolios = omega arith in
+    fresh_made (pos 0) g.portfolios g.sellers.now g.resources g.blocks.now n k c.args.state.now _ _ _ _ c.clear.ensures c.put_whole.ensures c.put_each.ensures c.put_each-2.ensures

@@ -19,7 +19,6 @@ loop-r-preserved c =
     let rooms = c.put_resource.ensures.room in
     let out = c.put_resource.ensures.blocks ∙ ap (λ (n : ℕ). sets l.blocks n (block_numbers x)) z in
     record {
-      within = omega arith;
       same_length = ap length out ∙ length-sets l.blocks (0 + i) (block_numbers x) ∙ l.invariant.same_length;
       rooms = below_more _ _ l.invariant.rooms rooms;
       left = blocks_go_on block_numbers block_room a.list a.blocks.now 0 no_resource l.blocks l.r _ l.invariant.left (omega (arith, many))

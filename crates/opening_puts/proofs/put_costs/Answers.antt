@@ -3,6 +3,7 @@ use Rattle.std.proofs.Common.{◌≡◌, ◌+◌, length, ap, ◌∙◌, rules}
 use lib.ListN.{set}
 use Rattle.rules_number.proofs.Kit.{rd}
 use Rattle.rules_cost.specs.Costs.{most_points}
+use Rattle.opening_puts.specs.Blocks.{point_numbers}
 use Rattle.opening_puts.proofs.PutLaws.{pair_exact, cost_put}
 use Rattle.opening_puts.proofs.put_costs.Goals as goal
 
@@ -18,11 +19,11 @@ returns-clause-blocks c =
     let msc : rd x.msc ≡ x.msc = search rules in
     let soc : rd x.soc ≡ x.soc = search rules in
     let fee : rd x.fee ≡ x.fee = search rules in
-    let points = c.put_points.new.blocks in
+    let points = c.put_pairs.new.blocks in
     let two = c.put_pair.new.blocks in
     let four = c.put_pair-2.new.blocks in
     let six = c.put_pair-3.new.blocks in
-    cost_put x eleven a.blocks.now _ _ _ _ six _ a.at c.put_whole.ensures c.put_points.ensures
+    cost_put x eleven a.blocks.now _ _ _ _ six _ a.at c.put_whole.ensures (c.put_pairs.ensures point_numbers (λ x y p. search rules))
     (pair_exact points two (a.at + 23) x.gas x.rate (rd x.gas) (rd x.rate) gas rate c.put_pair.ensures)
     (pair_exact two four (a.at + 25) x.allowance x.om (rd x.allowance) (rd x.om) allowance om c.put_pair-2.ensures)
     (pair_exact four six (a.at + 27) x.msc x.soc (rd x.msc) (rd x.soc) msc soc c.put_pair-3.ensures)

@@ -38,20 +38,20 @@ marked c e =
     let state = c.args.state.now in
     ap nat_of c.cell_at-mark.ensures ∙ sym (mark_at state c.whole_at-p.result c.if-p-ge-MAX_PORTFOLIOS.false) ∙ ap (at (market_in state).seller) e
 
-pub returns-then-p-ge-MAX_PORTFOLIOS : goal.returns-then-p-ge-MAX_PORTFOLIOS
-returns-then-p-ge-MAX_PORTFOLIOS c =
-    let p = goal.at.returns-then-p-ge-MAX_PORTFOLIOS c in
-    (seller_is (market_in c.args.state.now) c.args.r 16 (none (λ l k. omega (arith, read p.After-whole_at-p)) refl), omega arith)
+pub returns-then-p-ge-MAX_PORTFOLIOS-clause-seller : goal.returns-then-p-ge-MAX_PORTFOLIOS-clause-seller
+returns-then-p-ge-MAX_PORTFOLIOS-clause-seller c =
+    let p = goal.at.returns-then-p-ge-MAX_PORTFOLIOS-clause-seller c in
+    seller_is (market_in c.args.state.now) c.args.r 16 (none (λ l k. omega (arith, read p.After-whole_at-p)) refl)
 
-pub returns-then-mark-eq1 : goal.returns-then-mark-eq1
-returns-then-mark-eq1 c =
-    let p = goal.at.returns-then-mark-eq1 c in
+pub returns-then-mark-eq1-clause-seller : goal.returns-then-mark-eq1-clause-seller
+returns-then-mark-eq1-clause-seller c =
+    let p = goal.at.returns-then-mark-eq1-clause-seller c in
     let e = read p.After-whole_at-p in
     let is : c.cell_at-mark.result ≡ pos 1 = bits_same c.cell_at-mark.result (pos 1) (record { sfits = c.cell_at-mark.type_inv }) (pos_fits 1 tt) c.if-mark-eq1.true in
-    (seller_is (market_in c.args.state.now) c.args.r c.whole_at-p.result (sells (omega (arith, e)) (sym (marked p.After-cell_at-mark e) ∙ ap nat_of is) e), omega arith)
+    seller_is (market_in c.args.state.now) c.args.r c.whole_at-p.result (sells (omega (arith, e)) (sym (marked p.After-cell_at-mark e) ∙ ap nat_of is) e)
 
-pub returns : goal.returns
-returns c =
-    let p = goal.at.returns c in
+pub returns-clause-seller : goal.returns-clause-seller
+returns-clause-seller c =
+    let p = goal.at.returns-clause-seller c in
     let e = read p.After-whole_at-p in
-    (seller_is (market_in c.args.state.now) c.args.r 16 (none (λ l k. c.if-mark-eq1.false (ap (of_z w64) (one c.cell_at-mark.result (marked p.After-cell_at-mark e ∙ k)))) refl), omega arith)
+    seller_is (market_in c.args.state.now) c.args.r 16 (none (λ l k. c.if-mark-eq1.false (ap (of_z w64) (one c.cell_at-mark.result (marked p.After-cell_at-mark e ∙ k)))) refl)

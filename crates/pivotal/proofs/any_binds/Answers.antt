@@ -11,7 +11,7 @@ use Rattle.pivotal.proofs.any_binds.Goals as goal
 
 pub loop-c-init : goal.loop-c-init
 unfolding any_to
-loop-c-init c = (omega arith, refl)
+loop-c-init c = refl
 
 pub returns-then-cell_at-gt0 : goal.returns-then-cell_at-gt0
 returns-then-cell_at-gt0 c =
@@ -19,8 +19,6 @@ returns-then-cell_at-gt0 c =
     (ap (lt_z (pos 0)) (sym c.cell_at.ensures) ∙ (rw (came c.cell_at.result c.cell_at.type_inv) at c.if-cell_at-gt0.true))
 
 pub loop-c-preserved : goal.loop-c-preserved
-loop-c-preserved c = (
-  omega arith,
-  any_next (λ k. lt_z (pos 0) (cell_at c.args.shadow.now k)) c.loop-c.c c.loop-c.invariant.1
-      (ap (lt_z (pos 0)) (sym c.cell_at.ensures) ∙ (rw (came c.cell_at.result c.cell_at.type_inv) at c.if-cell_at-gt0.false)),
-)
+loop-c-preserved c =
+    any_next (λ k. lt_z (pos 0) (cell_at c.args.shadow.now k)) c.loop-c.c c.loop-c.invariant
+    (ap (lt_z (pos 0)) (sym c.cell_at.ensures) ∙ (rw (came c.cell_at.result c.cell_at.type_inv) at c.if-cell_at-gt0.false))

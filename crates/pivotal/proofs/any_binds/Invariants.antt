@@ -1,4 +1,4 @@
-use Rattle.std.proofs.Common.{◌≡◌, ◌-◌, ◌≤◌, false, pos}
+use Rattle.std.proofs.Common.{◌≡◌, false, pos}
 use Rattle.std.specs.Int.Signed.{lt_z}
 use Rattle.rules_library.specs.Slices.{cell_at}
 use Rattle.rules_pivotal.specs.Pivotals.{any_to}
@@ -6,7 +6,4 @@ use Rattle.pivotal.proofs.any_binds.Given as goal
 
 -- none before c binds
 abbrev pub invariant-loop-c : goal.invariant-loop-c
-invariant-loop-c l = (l.c ≤ l.n) × (any_to (λ k. lt_z (pos 0) (cell_at l.shadow k)) l.c ≡ false)
-
-abbrev pub decreases-loop-c : goal.decreases-loop-c
-decreases-loop-c l = l.n - l.c
+invariant-loop-c l = any_to (λ k. lt_z (pos 0) (cell_at l.shadow k)) l.c ≡ false

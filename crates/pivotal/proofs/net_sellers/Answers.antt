@@ -22,26 +22,24 @@ sells state q = eqb (at (market_in state).seller q) 1
 
 pub loop-p-init : goal.loop-p-init
 unfolding set_of Rattle.rules_number.specs.Over.sum_to
-loop-p-init c = (omega arith, refl)
+loop-p-init c = refl
 
 pub overflow_add-set : goal.overflow_add-set
-overflow_add-set c = record { fits = set_fits (sells c.args.state.now) c.loop-p.p c.loop-p.set c.loop-p.invariant.1 (omega arith) }
+overflow_add-set c = record { fits = set_fits (sells c.args.state.now) c.loop-p.p c.loop-p.set c.loop-p.invariant (omega arith) }
 
 pub loop-p-preserved : goal.loop-p-preserved
 loop-p-preserved c =
     let m = mark_at c.args.state.now c.loop-p.p (omega arith) in
-    let f = sells c.args.state.now in (
-      omega arith,
-      elim c.if-whole_at-eq1.branch [
-        | then-whole_at-eq1 w ↦ w.set-is ∙ set_more f c.loop-p.p c.loop-p.set c.loop-p.invariant.1 (omega arith) (eq-eqb _ 1 (m ∙ sym c.whole_at.ensures ∙ w.if-whole_at-eq1.true))
-        | else-whole_at-eq1 w ↦ w.set-is ∙ set_kept f c.loop-p.p c.loop-p.set c.loop-p.invariant.1 (ne_eqb _ 1 (λ e. w.if-whole_at-eq1.false (c.whole_at.ensures ∙ sym m ∙ e)))
-      ],
-    )
+    let f = sells c.args.state.now in
+    elim c.if-whole_at-eq1.branch [
+      | then-whole_at-eq1 w ↦ w.set-is ∙ set_more f c.loop-p.p c.loop-p.set c.loop-p.invariant (omega arith) (eq-eqb _ 1 (m ∙ sym c.whole_at.ensures ∙ w.if-whole_at-eq1.true))
+      | else-whole_at-eq1 w ↦ w.set-is ∙ set_kept f c.loop-p.p c.loop-p.set c.loop-p.invariant (ne_eqb _ 1 (λ e. w.if-whole_at-eq1.false (c.whole_at.ensures ∙ sym m ∙ e)))
+    ]
 
 pub returns : goal.returns
 unfolding net_sellers
 returns c =
     let e : c.loop-p.p ≡ 16 = omega arith in
     let f = sells c.args.state.now in
-    let i : c.loop-p.set ≡ set_of f 16 = rw e at c.loop-p.invariant.1 in
+    let i : c.loop-p.set ≡ set_of f 16 = rw e at c.loop-p.invariant in
     (i, omega (arith, set_below f 16))

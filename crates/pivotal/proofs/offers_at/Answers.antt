@@ -1,22 +1,18 @@
--- `pivotal::offers_at`: a turn copies one offer more. Assumes nothing.
-use mathlib.Core.Path.{◌≡◌, refl}
-use native.Mathlib.Numerals.{add-one}
+-- `pivotal::offers_at`: the sixteen after the first of a row. Assumes nothing.
+use mathlib.Core.Path.{◌≡◌, ◌∙◌}
+use Prim.Native.Nat.{ℕ, ◌+◌, ◌-◌, ◌*◌}
 use native.Mathlib.Omega.{arith}
-use Rattle.rules_number.specs.Over.{listed, padded}
-use Rattle.rules_number.proofs.ListedLaws.{padded_full}
-use Rattle.rules_number.proofs.OverLaws.{padded_next}
+use lib.ListN.{length, take, drop, length-take, length-drop}
+use lib.Seq.{get_or-take, get_or-drop}
+use Rattle.rules_number.proofs.ListedLaws.{listed_is}
 use Rattle.pivotal.specs.Rows.{offer_at, offers_at}
 use Rattle.pivotal.proofs.offers_at.Goals as goal
-
-pub loop-p-init : goal.loop-p-init
-unfolding padded listed
-loop-p-init c = (omega arith, refl)
-
-pub loop-p-preserved : goal.loop-p-preserved
-loop-p-preserved c = (omega arith, rw (c.loop-p.invariant.1, add-one c.loop-p.p) (padded_next 16 0 (offer_at c.args.rows.now c.args.c) c.loop-p.p (omega arith)))
 
 pub returns : goal.returns
 unfolding offers_at
 returns c =
-    let e : c.loop-p.p ≡ 16 = omega arith in
-    rw (c.loop-p.invariant.1, e) (padded_full 16 0 _)
+    let l = c.args.rows.now in
+    let from : ℕ = 17 * c.args.c + 1 in
+    let n : length (take (from + 16 - from) (drop from l)) ≡ 16 = simp (length-take, length-drop) (omega arith) in
+    c.copy_from_slice.ensures.after
+    ∙ listed_is 0 (take (from + 16 - from) (drop from l)) (offer_at l c.args.c) 16 n (λ q h. get_or-take (from + 16 - from) (drop from l) q 0 (omega arith) ∙ get_or-drop from l q 0)

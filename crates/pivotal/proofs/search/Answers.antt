@@ -4,23 +4,23 @@ use native.Mathlib.Omega.{arith}
 use Rattle.rules_pivotal.specs.Searches.{searched_to, searched}
 use Rattle.rules_pivotal.proofs.TriedLaws.{turn_tried, turn_used, turn_other}
 use Rattle.pivotal.proofs.search.Goals as goal
+use Rattle.pivotal.proofs.search.Goals.{then-s-sellers+then-tried-budget, then-s-sellers+else-tried-budget, else-s-sellers}
 
-pub loop-s-init : goal.loop-s-init
+pub loop-last-init : goal.loop-last-init
 unfolding searched_to
-loop-s-init c = (omega arith, refl)
+loop-last-init c = refl
 
-pub loop-s-preserved-then-tried-budget : goal.loop-s-preserved-then-tried-budget
-loop-s-preserved-then-tried-budget c =
-    (omega arith, turn_tried _ _ _ c.loop-s.s c.loop-s.best c.loop-s.tried c.loop-s.invariant.1 c.better-best.result c.better-best.ensures c.if-s-sellers.true c.if-tried-budget.true)
-
-pub loop-s-preserved-else-tried-budget : goal.loop-s-preserved-else-tried-budget
-loop-s-preserved-else-tried-budget c = (omega arith, turn_used _ _ _ c.loop-s.s c.loop-s.best c.loop-s.tried c.loop-s.invariant.1 c.if-tried-budget.false)
-
-pub loop-s-preserved : goal.loop-s-preserved
-loop-s-preserved c = (omega arith, turn_other _ _ _ c.loop-s.s c.loop-s.best c.loop-s.tried c.loop-s.invariant.1 c.if-s-sellers.false)
+pub loop-last-preserved : goal.loop-last-preserved
+loop-last-preserved c =
+    let l = c.loop-last in
+    elim c.if-s-sellers.branch [
+      | then-s-sellers+then-tried-budget w ↦ rw (w.best-is, w.tried-is) (turn_tried _ _ _ l.last l.best l.tried l.invariant w.better-best.result w.better-best.ensures w.if-s-sellers.true w.if-tried-budget.true)
+      | then-s-sellers+else-tried-budget w ↦ rw (w.best-is, w.tried-is) (turn_used _ _ _ l.last l.best l.tried l.invariant w.if-tried-budget.false)
+      | else-s-sellers w ↦ rw (w.best-is, w.tried-is) (turn_other _ _ _ l.last l.best l.tried l.invariant w.if-s-sellers.false)
+    ]
 
 pub returns : goal.returns
 unfolding searched
 returns c =
-    let e : c.args.sellers ≡ c.loop-s.s = omega arith in
-    c.loop-s.invariant.1 ∙ ap (searched_to _ c.args.sellers c.args.budget) (sym e)
+    let e : c.args.sellers ≡ c.loop-last.last = omega arith in
+    c.loop-last.invariant ∙ ap (searched_to _ c.args.sellers c.args.budget) (sym e)

@@ -15,22 +15,19 @@ small c = rw c.part_of-sum.ensures (part_le c.args.s c.loop-p.p (offer_at c.args
 
 pub loop-p-init : goal.loop-p-init
 unfolding sum_to
-loop-p-init c = (omega arith, (refl, omega arith))
+loop-p-init c = (refl, omega arith)
 
 pub overflow_add-sum : goal.overflow_add-sum
-overflow_add-sum c = record { fits = omega (arith, small (goal.at.overflow_add-sum c).After-part_of-sum, c.loop-p.invariant.1.1, c.loop-p.invariant.0) }
+overflow_add-sum c = record { fits = omega (arith, small (goal.at.overflow_add-sum c).After-part_of-sum, c.loop-p.invariant.1) }
 
 pub loop-p-preserved : goal.loop-p-preserved
 loop-p-preserved c = (
-  omega arith,
-  (
-    rw (sum_next (part_at c.args.rows.now c.args.s c.args.c) c.loop-p.p, sym c.loop-p.invariant.1.0, c.part_of-sum.ensures) refl,
-    omega (arith, small (goal.at.loop-p-preserved c).After-part_of-sum, c.loop-p.invariant.1.1),
-  ),
+  rw (sum_next (part_at c.args.rows.now c.args.s c.args.c) c.loop-p.p, sym c.loop-p.invariant.0, c.part_of-sum.ensures) refl,
+  omega (arith, small (goal.at.loop-p-preserved c).After-part_of-sum, c.loop-p.invariant.1),
 )
 
 pub returns : goal.returns
 unfolding withheld_at
 returns c =
     let e : c.loop-p.p ≡ 16 = omega arith in
-    rw (sym e) c.loop-p.invariant.1.0
+    rw (sym e) c.loop-p.invariant.0

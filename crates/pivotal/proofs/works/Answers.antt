@@ -9,7 +9,7 @@ use Rattle.pivotal.proofs.works.Goals as goal
 
 pub loop-c-init : goal.loop-c-init
 unfolding all_to
-loop-c-init c = (omega arith, refl)
+loop-c-init c = refl
 
 pub returns-then-not-is_short : goal.returns-then-not-is_short
 unfolding works_on
@@ -18,10 +18,10 @@ returns-then-not-is_short c =
 
 pub loop-c-preserved : goal.loop-c-preserved
 loop-c-preserved c =
-    (omega arith, all_next (λ k. leb (lack_at c.args.rows.now k) (withheld_at c.args.rows.now c.args.s k)) c.loop-c.c c.loop-c.invariant.1 (sym c.is_short.ensures ∙ c.if-not-is_short.false))
+    all_next (λ k. leb (lack_at c.args.rows.now k) (withheld_at c.args.rows.now c.args.s k)) c.loop-c.c c.loop-c.invariant (sym c.is_short.ensures ∙ c.if-not-is_short.false)
 
 pub returns : goal.returns
 unfolding works_on
 returns c =
     let e : c.args.n ≡ c.loop-c.c = omega arith in
-    rw e (sym c.loop-c.invariant.1)
+    rw e (sym c.loop-c.invariant)

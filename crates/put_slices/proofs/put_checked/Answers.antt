@@ -1,44 +1,43 @@
 -- `put_slices::put_checked`: one answer for each way out. Assumes nothing.
-use Rattle.std.proofs.Common.{◌≡◌, sym, ap, ◌∙◌}
+use Rattle.std.proofs.Common.{negsuc, refl, sym, ap, ◌∙◌}
+use Rattle.std.specs.Result.{result_unwrap_or}
+use Rattle.rules_curve.specs.Curves.{blank_curve}
 use Rattle.rules_curve.specs.Refusals.{outcome_number}
 use Rattle.rules_curve.proofs.RefusalLaws.{told_number}
-use Rattle.put_slices.proofs.PutLaws.{few_edges, few_prices, refused, written}
+use Rattle.put_slices.proofs.PutLaws.{Answered, few_edges, few_prices, refused, written}
 use Rattle.put_slices.proofs.put_checked.Goals as goal
+use Rattle.put_slices.proofs.put_checked.Goals.{then-edges-lt-EDGES-via-then-edges-lt-EDGES, then-edges-lt-EDGES-via-else-edges-lt-EDGES+then-prices-lt-PRICES}
 
-pub returns-then-edges-lt-EDGES-clause-edges : goal.returns-then-edges-lt-EDGES-clause-edges
-returns-then-edges-lt-EDGES-clause-edges c =
-    (few_edges c.args.edges.now c.args.prices.now (outcome_number c.args.checked.outcome) c.args.checked.curve c.if-edges-lt-EDGES.true).1.0
+pub returns-then-edges-lt-EDGES : goal.returns-then-edges-lt-EDGES
+returns-then-edges-lt-EDGES c =
+    let e = c.args.edges.now in
+    let p = c.args.prices.now in
+    let n = outcome_number c.args.checked in
+    let curve = result_unwrap_or c.args.checked blank_curve in
+    let x : Answered e p n curve (negsuc 0) e p = elim c.then-edges-lt-EDGES.branch [
+      | then-edges-lt-EDGES-via-then-edges-lt-EDGES w ↦ few_edges e p n curve w.if-edges-lt-EDGES.true
+      | then-edges-lt-EDGES-via-else-edges-lt-EDGES+then-prices-lt-PRICES w ↦ few_prices e p n curve w.if-edges-lt-EDGES.false w.if-prices-lt-PRICES.true
+    ] in
+    record { answer = x.0; edges = x.1.0; prices = x.1.1 }
 
-pub returns-then-edges-lt-EDGES-clause-prices : goal.returns-then-edges-lt-EDGES-clause-prices
-returns-then-edges-lt-EDGES-clause-prices c =
-    (few_edges c.args.edges.now c.args.prices.now (outcome_number c.args.checked.outcome) c.args.checked.curve c.if-edges-lt-EDGES.true).1.1
+pub returns-in-Err-clause-edges : goal.returns-in-Err-clause-edges
+returns-in-Err-clause-edges c =
+    let few = told_number c.in-Err.refusal c.refusal_number.result c.refusal_number.ensures in
+    let told = ap outcome_number c.in-Err.is ∙ sym c.refusal_number.ensures in
+    (refused c.args.edges.now c.args.prices.now _ _ c.if-edges-lt-EDGES.false c.if-prices-lt-PRICES.false c.refusal_number.result few.0 told).1.0
 
-pub returns-then-prices-lt-PRICES-clause-edges : goal.returns-then-prices-lt-PRICES-clause-edges
-returns-then-prices-lt-PRICES-clause-edges c =
-    (few_prices c.args.edges.now c.args.prices.now (outcome_number c.args.checked.outcome) c.args.checked.curve c.if-edges-lt-EDGES.false c.if-prices-lt-PRICES.true).1.0
+pub returns-in-Err-clause-prices : goal.returns-in-Err-clause-prices
+returns-in-Err-clause-prices c =
+    let few = told_number c.in-Err.refusal c.refusal_number.result c.refusal_number.ensures in
+    let told = ap outcome_number c.in-Err.is ∙ sym c.refusal_number.ensures in
+    (refused c.args.edges.now c.args.prices.now _ _ c.if-edges-lt-EDGES.false c.if-prices-lt-PRICES.false c.refusal_number.result few.0 told).1.1
 
-pub returns-then-prices-lt-PRICES-clause-prices : goal.returns-then-prices-lt-PRICES-clause-prices
-returns-then-prices-lt-PRICES-clause-prices c =
-    (few_prices c.args.edges.now c.args.prices.now (outcome_number c.args.checked.outcome) c.args.checked.curve c.if-edges-lt-EDGES.false c.if-prices-lt-PRICES.true).1.1
+pub returns-in-Ok-clause-edges : goal.returns-in-Ok-clause-edges
+returns-in-Ok-clause-edges c =
+    rw c.in-Ok.is
+    (c.put_default.ensures.edges ∙ (written c.args.edges.now c.args.prices.now 0 c.in-Ok.curve c.if-edges-lt-EDGES.false c.if-prices-lt-PRICES.false refl).1.0)
 
-pub returns-in-Refused-clause-edges : goal.returns-in-Refused-clause-edges
-returns-in-Refused-clause-edges c =
-    let few = told_number c.in-Refused.refusal c.refusal_number.result c.refusal_number.ensures in
-    let told = ap outcome_number c.in-Refused.is ∙ sym c.refusal_number.ensures in
-    (refused c.args.edges.now c.args.prices.now (outcome_number c.args.checked.outcome) c.args.checked.curve c.if-edges-lt-EDGES.false c.if-prices-lt-PRICES.false c.refusal_number.result few.0 told).1.0
-
-pub returns-in-Refused-clause-prices : goal.returns-in-Refused-clause-prices
-returns-in-Refused-clause-prices c =
-    let few = told_number c.in-Refused.refusal c.refusal_number.result c.refusal_number.ensures in
-    let told = ap outcome_number c.in-Refused.is ∙ sym c.refusal_number.ensures in
-    (refused c.args.edges.now c.args.prices.now (outcome_number c.args.checked.outcome) c.args.checked.curve c.if-edges-lt-EDGES.false c.if-prices-lt-PRICES.false c.refusal_number.result few.0 told).1.1
-
-pub returns-clause-edges : goal.returns-clause-edges
-returns-clause-edges c =
-    let none : outcome_number c.args.checked.outcome ≡ 0 = rw c.in_default.is in
-    c.put_default.ensures.edges ∙ (written c.args.edges.now c.args.prices.now (outcome_number c.args.checked.outcome) c.args.checked.curve c.if-edges-lt-EDGES.false c.if-prices-lt-PRICES.false none).1.0
-
-pub returns-clause-prices : goal.returns-clause-prices
-returns-clause-prices c =
-    let none : outcome_number c.args.checked.outcome ≡ 0 = rw c.in_default.is in
-    c.put_default.ensures.prices ∙ (written c.args.edges.now c.args.prices.now (outcome_number c.args.checked.outcome) c.args.checked.curve c.if-edges-lt-EDGES.false c.if-prices-lt-PRICES.false none).1.1
+pub returns-in-Ok-clause-prices : goal.returns-in-Ok-clause-prices
+returns-in-Ok-clause-prices c =
+    rw c.in-Ok.is
+    (c.put_default.ensures.prices ∙ (written c.args.edges.now c.args.prices.now 0 c.in-Ok.curve c.if-edges-lt-EDGES.false c.if-prices-lt-PRICES.false refl).1.1)

@@ -26,6 +26,3 @@ invariant-loop-r l = record {
   long : SameLong l.initial.shown l.initial.places l.initial.widths l.shown l.places l.widths;
   kept : Kept (market_in l.state).resources (rows_in l.state) l.out l.p l.shown l.places l.widths;
 }
-
-abbrev pub decreases-loop-r : goal.decreases-loop-r
-decreases-loop-r l = l.n - l.r

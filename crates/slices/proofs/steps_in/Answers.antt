@@ -14,13 +14,12 @@ by_cells e f = cc
 
 pub loop-i-init : goal.loop-i-init
 unfolding padded listed
-loop-i-init c = record { within = omega arith; filled = refl }
+loop-i-init c = refl
 
 pub loop-i-preserved : goal.loop-i-preserved
-loop-i-preserved c = record {
-  within = omega arith;
-  filled = filled_next most_steps blank_raw (raw_step_at c.args.s.now) c.loop-i.steps c.loop-i.i _ (omega arith) c.loop-i.invariant.filled (by_cells (came c.cell_at-end.result c.cell_at-end.type_inv ∙ c.cell_at-end.ensures) (came c.cell_at-price.result c.cell_at-price.type_inv ∙ c.cell_at-price.ensures));
-}
+loop-i-preserved c =
+    filled_next most_steps blank_raw (raw_step_at c.args.s.now) c.loop-i.step-items c.loop-i.i _ (omega arith) c.loop-i.invariant
+    (by_cells (came c.cell_at.result c.cell_at.type_inv ∙ c.cell_at.ensures) (came c.cell_at-in-loop-i.result c.cell_at-in-loop-i.type_inv ∙ c.cell_at-in-loop-i.ensures))
 
 pub returns : goal.returns
-returns c = filled most_steps blank_raw (raw_step_at c.args.s.now) c.loop-i.steps c.loop-i.i (omega arith) (omega arith) c.loop-i.invariant.filled
+returns c = filled most_steps blank_raw (raw_step_at c.args.s.now) c.loop-i.step-items c.loop-i.i (omega arith) (omega arith) c.loop-i.invariant

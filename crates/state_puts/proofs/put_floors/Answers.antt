@@ -23,9 +23,9 @@ joined floors s marked out at n e f =
     f ∙ ap (λ (l : List ℤ). sets l (at + most_resources) prices) e ∙ ap (λ (i : ℕ). sets (sets s at marks) (at + i) prices) far ∙ sym (sets_append s at marks prices)
 
 pub returns-clause-room : goal.returns-clause-room
-returns-clause-room c = room c.args.floors (search rules)
+returns-clause-room c = room c.args.floors.now (search rules)
 
 pub returns-clause-state : goal.returns-clause-state
 returns-clause-state c =
     let a = c.args in
-    joined a.floors a.state.now _ _ a.at (search rules) c.put_marks.ensures c.put_prices.ensures
+    joined a.floors.now a.state.now _ _ a.at (search rules) (c.put_each.ensures mark_of (λ price x p. p.1)) (c.put_each-2.ensures price_of (λ price x p. p.1))

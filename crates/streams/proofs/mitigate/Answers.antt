@@ -12,21 +12,21 @@ only_too_small ran.TooSmall h = refl
 
 pub returns-in_default-run-clause-page : goal.returns-in_default-run-clause-page
 returns-in_default-run-clause-page c =
-    let t = take c.in-Bytes.n c.read_all.new.text in
+    let t = take c.in-Ok.n c.read_all.new.text in
     (too_small c.args.page.now (output t) (end_of t) c.read_all.new.text c.run.new.out c.run.ensures.buffer (sym (only_too_small c.run.result c.in_default-run.not-Printed) ∙ c.run.ensures.count)).1.0
 
 pub returns-in_default-run-clause-small : goal.returns-in_default-run-clause-small
 returns-in_default-run-clause-small c =
-    let t = take c.in-Bytes.n c.read_all.new.text in
+    let t = take c.in-Ok.n c.read_all.new.text in
     (too_small c.args.page.now (output t) (end_of t) c.read_all.new.text c.run.new.out c.run.ensures.buffer (sym (only_too_small c.run.result c.in_default-run.not-Printed) ∙ c.run.ensures.count)).1.1.1
 
 pub written-requires : goal.written-requires
 written-requires c =
-    let t = take c.in-Bytes.n c.read_all.new.text in
+    let t = take c.in-Ok.n c.read_all.new.text in
     omega (arith, within c.args.page.now (output t) (end_of t) _ _ _ (sym c.in-Printed.is ∙ c.run.ensures.count) c.run.ensures.whole)
 
 pub returns-clause-handed : goal.returns-clause-handed
 returns-clause-handed c =
-    let t = take c.in-Bytes.n c.read_all.new.text in
-    (handed c.written.result c.in-Bytes.n c.in-Printed.k _ _ (end_of t) c.read_all.new.text c.args.page.now c.run.new.out c.written.ensures (omega arith) c.run.ensures.buffer
+    let t = take c.in-Ok.n c.read_all.new.text in
+    (handed c.written.result c.in-Ok.n c.in-Printed.k _ _ (end_of t) c.read_all.new.text c.args.page.now c.run.new.out c.written.ensures (omega arith) c.run.ensures.buffer
     (sym c.in-Printed.is ∙ c.run.ensures.count)).1.1.0

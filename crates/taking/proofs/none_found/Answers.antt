@@ -5,13 +5,12 @@ use Rattle.taking.proofs.FoundLaws.{filled_none, filled_next, filled_all}
 use Rattle.taking.proofs.none_found.Goals as goal
 
 pub loop-c-init : goal.loop-c-init
-loop-c-init c = (omega arith, filled_none)
+loop-c-init c = filled_none
 
 pub loop-c-preserved : goal.loop-c-preserved
-loop-c-preserved c =
-    (omega arith, rw c.loop-c.invariant.1 (filled_next c.loop-c.c c.loop-c-test.true))
+loop-c-preserved c = rw c.loop-c.invariant (filled_next c.loop-c.c c.loop-c-test.true)
 
 pub returns : goal.returns
 returns c =
     let e : c.loop-c.c ≡ 32 = omega arith in
-    rw e at c.loop-c.invariant.1 ∙ filled_all
+    rw e at c.loop-c.invariant ∙ filled_all

@@ -1,7 +1,7 @@
 -- `text_numbers::closed_at` meets its contract. Assumes nothing.
+use Rattle.std.specs.Prelude.{Some}
 use Rattle.std.proofs.Common.{◌+◌, true, false, ℤ, refl, ap, ◌∙◌}
 use Rattle.rules_number.proofs.Kit.{came}
-use Rattle.rules_text.specs.declared.Number.TheVariants.{Is}
 use Rattle.rules_text.proofs.NumberLaws.{closed_end, closed_natural, closed_spelt}
 use Rattle.text_numbers.proofs.closed_at.Goals as goal
 
@@ -12,7 +12,7 @@ pub returns-then-not-closes : goal.returns-then-not-closes
 returns-then-not-closes c =
     let d = c.digits_in-digits in
     let a = c.args in
-    closed_natural a.s.now a.b a.at d.result.value d.result.count (d.ensures.value_value, d.ensures.count_value) c.if-count-eq0.false
+    closed_natural a.s.now a.b a.at d.result.value d.result.count (d.ensures.value_value, d.ensures.count_value) c.if-digits-eq0.false
     false false c.if-not-closes.ensures refl
 
 pub plus-requires : goal.plus-requires
@@ -25,6 +25,6 @@ pub returns : goal.returns
 returns c =
     let d = c.digits_in-digits in
     let a = c.args in
-    ap (λ (z : ℤ). Is z (a.at + d.result.count + 1)) (came c.plus.result c.plus.type_inv ∙ c.plus.ensures)
-    ∙ closed_natural a.s.now a.b a.at d.result.value d.result.count (d.ensures.value_value, d.ensures.count_value) c.if-count-eq0.false
+    ap (λ (z : ℤ). Some (z, (a.at + d.result.count + 1))) (came c.plus.result c.plus.type_inv ∙ c.plus.ensures)
+    ∙ closed_natural a.s.now a.b a.at d.result.value d.result.count (d.ensures.value_value, d.ensures.count_value) c.if-digits-eq0.false
     true true c.if-not-closes.ensures refl

@@ -1,5 +1,5 @@
 -- `text_numbers::digits_in` meets its contract. Assumes nothing.
-use Rattle.std.proofs.Common.{◌∙◌, arith}
+use Rattle.std.proofs.Common.{arith}
 use Rattle.rules_text.proofs.NumberLaws.{reads_stop, reads_more, ten_top}
 use Rattle.text_numbers.proofs.digits_in.Goals as goal
 
@@ -8,7 +8,7 @@ returns-then-d-gt9 c =
     let a = c.args in
     let d = c.wrapping_sub_u64-d in
     let r = reads_stop a.s.now a.at a.end c.requires.1 c.loop-count.value c.loop-count.count c.loop-count.invariant
-    d.result c.loop-count-test.true (d.ensures.value ∙ c.wide.ensures) (omega (arith, d.type_inv)) c.if-d-gt9.true in
+    d.result c.loop-count-test.true d.ensures.value (omega (arith, d.type_inv)) c.if-d-gt9.true in
     record { value_value = r.0; count_value = r.1 }
 
 pub overflow_mul-value : goal.overflow_mul-value
@@ -22,4 +22,4 @@ loop-count-preserved c =
     let a = c.args in
     let d = c.wrapping_sub_u64-d in
     reads_more a.s.now a.at a.end c.requires.1 c.loop-count.value c.loop-count.count c.loop-count.invariant
-    d.result c.loop-count-test.true (d.ensures.value ∙ c.wide.ensures) c.if-d-gt9.false
+    d.result c.loop-count-test.true d.ensures.value c.if-d-gt9.false

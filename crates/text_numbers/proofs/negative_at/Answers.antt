@@ -1,7 +1,7 @@
 -- `text_numbers::negative_at` meets its contract. Assumes nothing.
+use Rattle.std.specs.Prelude.{Some}
 use Rattle.std.proofs.Common.{◌+◌, true, false, eqb, refl, ap, ◌∙◌, ℤ, eq-eqb, ne_eqb}
 use Rattle.rules_number.proofs.Kit.{came}
-use Rattle.rules_text.specs.declared.Number.TheVariants.{Is}
 use Rattle.rules_text.proofs.NumberLaws.{closed_none, closed_negative, closed_spelt}
 use Rattle.text_numbers.proofs.negative_at.Goals as goal
 
@@ -32,6 +32,6 @@ pub returns : goal.returns
 returns c =
     let d = c.digits_in-digits in
     let a = c.args in
-    ap (λ (z : ℤ). Is z (a.at + 1 + d.result.count + 1)) (came c.minus.result c.minus.type_inv ∙ c.minus.ensures)
+    ap (λ (z : ℤ). Some (z, (a.at + 1 + d.result.count + 1))) (came c.minus.result c.minus.type_inv ∙ c.minus.ensures)
     ∙ closed_negative a.s.now a.b a.at d.result.value d.result.count (d.ensures.value_value, d.ensures.count_value) c.if-s-at-ne45.false
     true true c.if-not-closes.ensures refl false (ne_eqb d.result.value 0 c.if-digits-eq0.false)

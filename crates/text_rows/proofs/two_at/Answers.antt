@@ -1,27 +1,30 @@
 -- `text_rows::two_at` meets its contract. Assumes nothing.
-use Rattle.std.proofs.Common.{ap, ◌∙◌, arith}
+use Rattle.std.proofs.Common.{[], ◌∷◌, pos, refl, arith}
+use mathlib.Core.Path.{ap₂}
 use Rattle.text_bytes.proofs.ShortLaws.{plus_is}
 use Rattle.text_bytes.proofs.HeadLaws.{After, after_is, elsewhere_is, other_row}
-use Rattle.text_rows.specs.Rows.{two_of}
-use Rattle.text_rows.proofs.DueLaws.{due_more, after_due, two_is}
+use Rattle.text_rows.proofs.StandLaws.{row_is}
 use Rattle.text_rows.proofs.two_at.Goals as goal
 
-pub plain_in-y-requires : goal.plain_in-y-requires
-plain_in-y-requires c =
+pub plain_in-requires : goal.plain_in-requires
+plain_in-requires c =
     let h : After c.args.n c.args.s.now c.args.at 19 c.in-Past.p = after_is c.head_at.ensures c.in-Past.is in
     (omega arith, omega arith, omega (arith, h.left))
 
-pub plain_in-z-requires : goal.plain_in-z-requires
-plain_in-z-requires c =
+pub plain_in-requires-in-Some : goal.plain_in-requires-in-Some
+plain_in-requires-in-Some c =
     let h : After c.args.n c.args.s.now c.args.at 19 c.in-Past.p = after_is c.head_at.ensures c.in-Past.is in
-    (omega arith, omega arith, omega (arith, h.left, c.plain_in-y.ensures.value_bound.1))
+    (omega arith, omega arith, omega (arith, h.left, c.in-Some.ensures.value_bound.1))
 
-pub returns-then-z-ne0 : goal.returns-then-z-ne0
-returns-then-z-ne0 c =
+pub returns-in-Some-plain_in : goal.returns-in-Some-plain_in
+returns-in-Some-plain_in c =
     let h : After c.args.n c.args.s.now c.args.at 19 c.in-Past.p = after_is c.head_at.ensures c.in-Past.is in
-    let e = c.plain_in-y.ensures in
-    let f = c.plain_in-z.ensures in
-    two_is (due_more (due_more (after_due h 1) (e.plain c.if-y-ne0.true).natural) (f.plain c.if-z-ne0.true).natural) (plus_is e.value_bound.0) (plus_is f.value_bound.0)
+    let y = c.in-Some.y in
+    let z = c.in-Some-plain_in.z in
+    let e = c.in-Some.ensures in
+    let f = c.in-Some-plain_in.ensures in
+    row_is c.args.n c.args.s.now c.args.at (pos y.value ∷ pos z.value ∷ []) z.next (omega arith) (c.in-Past.p, h.is, (y.next, e.plain.natural, (z.next, f.plain.natural, refl))) _
+    (ap₂ ◌∷◌ (plus_is {v = c.args.n} (omega (arith, h.few))) (ap₂ ◌∷◌ (plus_is {v = y.value} e.value_bound.0) (ap₂ ◌∷◌ (plus_is {v = z.value} f.value_bound.0) refl)))
 
 pub returns-in-Other : goal.returns-in-Other
-returns-in-Other c = c.no_two.ensures ∙ ap two_of (other_row (elsewhere_is 19 c.head_at.ensures c.in-Other.is) 1 (omega arith))
+returns-in-Other c = other_row (elsewhere_is 19 c.head_at.ensures c.in-Other.is) 1 (omega arith)

@@ -14,15 +14,13 @@ returns-then-numbers-at c = none_there c.args.numbers.now c.args.at most_portfol
 
 pub loop-p-init : goal.loop-p-init
 unfolding padded listed
-loop-p-init c = record { within = omega arith; filled = refl }
+loop-p-init c = refl
 
 pub loop-p-preserved : goal.loop-p-preserved
-loop-p-preserved c = record {
-  within = omega arith;
-  filled = filled_next most_portfolios 0 (λ k. nat_of (cell_at c.args.numbers.now (c.args.at + k))) c.loop-p.wholes c.loop-p.p _ (omega arith) c.loop-p.invariant.filled c.whole_at.ensures;
-}
+loop-p-preserved c =
+    filled_next most_portfolios 0 (λ k. nat_of (cell_at c.args.numbers.now (c.args.at + k))) c.loop-p.whole-items c.loop-p.p _ (omega arith) c.loop-p.invariant c.whole_at.ensures
 
 pub returns : goal.returns
 unfolding wholes_in
 returns c =
-    filled most_portfolios 0 (λ k. nat_of (cell_at c.args.numbers.now (c.args.at + k))) c.loop-p.wholes c.loop-p.p (omega arith) (omega arith) c.loop-p.invariant.filled
+    filled most_portfolios 0 (λ k. nat_of (cell_at c.args.numbers.now (c.args.at + k))) c.loop-p.whole-items c.loop-p.p (omega arith) (omega arith) c.loop-p.invariant

@@ -10,15 +10,13 @@ use Rattle.verdict_cells.proofs.verdicts_in.Goals as goal
 
 pub loop-c-init : goal.loop-c-init
 unfolding padded listed
-loop-c-init c = record { within = omega arith; filled = ap (λ (x : Verdict). replicate most_constraints x) c.verdict_in-verdicts.ensures }
+loop-c-init c = ap (λ (x : Verdict). replicate most_constraints x) c.verdict_in-verdicts.ensures
 
 pub loop-c-preserved : goal.loop-c-preserved
-loop-c-preserved c = record {
-  within = omega arith;
-  filled = filled_next most_constraints (verdict_in c.args.numbers.now 0) (verdict_in c.args.numbers.now) c.loop-c.verdicts c.loop-c.c _ (omega arith) c.loop-c.invariant.filled c.verdict_in.ensures;
-}
+loop-c-preserved c =
+    filled_next most_constraints (verdict_in c.args.numbers.now 0) (verdict_in c.args.numbers.now) c.loop-c.verdict-items c.loop-c.c _ (omega arith) c.loop-c.invariant c.verdict_in.ensures
 
 pub returns : goal.returns
 unfolding verdicts_in
 returns c =
-    filled most_constraints (verdict_in c.args.numbers.now 0) (verdict_in c.args.numbers.now) c.loop-c.verdicts c.loop-c.c (omega arith) (omega arith) c.loop-c.invariant.filled
+    filled most_constraints (verdict_in c.args.numbers.now 0) (verdict_in c.args.numbers.now) c.loop-c.verdict-items c.loop-c.c (omega arith) (omega arith) c.loop-c.invariant

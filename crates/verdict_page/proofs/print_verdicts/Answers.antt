@@ -1,8 +1,8 @@
 -- Goals of `verdict_page::print_verdicts` that the search leaves. Assumes nothing.
+use Rattle.std.specs.Prelude.{Some}
 use Rattle.std.proofs.Common.{◌≡◌, ℕ, ◌+◌, ◌≤◌, List, [], ◌++◌, length, refl, sym, ◌∙◌, arith, true}
 use mathlib.Core.List.{append-nil}
 use borrow.Author.Tests.{leb-true}
-use Rattle.rules_text.specs.declared.Printed.TheVariants.{To}
 use Rattle.rules_page.specs.Pages.{verdict_names, seller_names, verdict_table, seller_table, verdict_text, verdict_room, is_room, put_within, put_within_to}
 use Rattle.rules_state.specs.Verdicts.{verdicts_in}
 use Rattle.page.proofs.PageLaws.{Putting, putting_start, putting_next, putting_done, within_none, within_some}
@@ -68,7 +68,7 @@ stage4 c =
     let p = c.put_sellers in
     (putting_next k.0 (rest3 c) [] p.new.out p.result (sym (append-nil (rest3 c))) p.ensures.buffer p.ensures.next, omega (arith, p.ensures.few, k.1))
 
-both : (c : After-put_sellers) → (c.put_sellers.new.out ≡ put_within verdict_room c.args.out.now c.args.at (page c)) × (To c.put_sellers.result ≡ put_within_to verdict_room c.args.out.now c.args.at (page c))
+both : (c : After-put_sellers) → (c.put_sellers.new.out ≡ put_within verdict_room c.args.out.now c.args.at (page c)) × (Some c.put_sellers.result ≡ put_within_to verdict_room c.args.out.now c.args.at (page c))
 both c =
     let d = putting_done (stage4 c).0 refl in
     within_some verdict_room c.args.out.now c.args.at (page c) c.put_sellers.new.out c.put_sellers.result (holds-room c) d.0 d.1

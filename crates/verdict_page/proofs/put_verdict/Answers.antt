@@ -1,5 +1,5 @@
 -- Goals of `verdict_page::put_verdict` that the search leaves. Assumes nothing.
-use Rattle.std.proofs.Common.{ℕ, ◌+◌, ◌*◌, List, ◌∷◌, sym, ap, subst, ◌∙◌, arith, rules}
+use Rattle.std.proofs.Common.{◌≡◌, ℕ, ◌+◌, ◌*◌, List, ◌∷◌, sym, ap, subst, ◌∙◌, arith, rules, length}
 use Rattle.std.proofs.Math.IntN.{pos}
 use mir.Syntax.{w64}
 use mir.Val.{SFits}
@@ -27,5 +27,6 @@ returns c =
     let fc = ap pos (small_printable s.c (omega (arith, c.requires.1))) in
     let row = simp (zf, zd, zl, fc) at c.verdict_row-row.ensures in
     let e = verdict_row_lem cells s.c g.sfits h.sfits in
+    let five : length c.verdict_row-row.result ≡ 5 = ap length c.verdict_row-row.ensures in
     subst (λ (text : List ℕ). Put 105 s.out.now s.at text c.put_line.new.out c.put_line.result) (sym (group_one (printable s.i) s.c _ ∙ ap (λ (x : Row). line_text (pos (printable s.i) ∷ pos s.c ∷ x)) e))
-    (rw row at c.put_line.ensures)
+    (rw row at (c.put_line.ensures.whole (omega (arith, five, c.requires.0))))

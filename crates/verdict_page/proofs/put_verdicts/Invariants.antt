@@ -1,11 +1,7 @@
--- What the loop of `verdict_page::put_verdicts` keeps, and its measure.
-use Rattle.std.proofs.Common.{◌-◌}
+-- What the loop of `verdict_page::put_verdicts` keeps.
 use Rattle.rules_page.specs.Pages.{verdict_rows}
 use Rattle.verdict_page.proofs.TableLaws.{Table}
 use Rattle.verdict_page.proofs.put_verdicts.Given as goal
 
 abbrev pub invariant-loop-c : goal.invariant-loop-c
 invariant-loop-c l = Table verdict_rows 105 l.fn.out l.at l.i l.constraints l.verdicts l.out l.p l.c
-
-abbrev pub decreases-loop-c : goal.decreases-loop-c
-decreases-loop-c l = l.n - l.c

@@ -1,6 +1,5 @@
 -- `engine::Hour/hour_bid`: by the intervals that are accepted.
-use mathlib.Core.Path.{◌≡◌, sym, ap, ◌∙◌}
-use Prim.Native.Nat.{◌≤◌, ◌<◌}
+use mathlib.Core.Path.{sym, ◌∙◌}
 use Rattle.rules_hour.specs.Hours.{curve_in}
 use Rattle.rules_hour_bid.specs.HourBids.{hour_bid_in}
 use Rattle.rules_hour_bid.proofs.HourBidIs.{full_hour, open_hour, refused_bid, given_bid}
@@ -13,7 +12,7 @@ unfolding standing_in
 returns-then-whole_at-lt-MAX_INTERVALS c =
     let h = as_real_time c.args.self in
     let e = open_hour h (rw c.whole_at.ensures at c.if-whole_at-lt-MAX_INTERVALS.true) in
-    record { number = sym e; curve = c.blank_curve.ensures ∙ sym (refused_bid h c.args.r 19 e) }
+    record { number = sym e; curve = sym (refused_bid h c.args.r 19 e) }
 
 pub returns : goal.returns
 unfolding standing_in hour_bid_in curve_in

@@ -1,5 +1,5 @@
 -- The loop of `opening_part::tables::charges_into`.
-use Rattle.std.proofs.Common.{ℕ, ◌+◌, ◌-◌, List, ℤ, length, drop}
+use Rattle.std.proofs.Common.{ℕ, ◌+◌, List, ℤ, length, drop}
 use Rattle.rules_text.specs.Numbers.{lines}
 use Rattle.rules_text.specs.Tables.{Reading, found, next, each}
 use Rattle.rules_text.proofs.UsedLaws.{Used}
@@ -14,6 +14,3 @@ abbrev pub invariant-loop-r : goal.invariant-loop-r
 invariant-loop-r l =
     Pricing l.from l.m l.r l.line l.cells (drop l.next l.s) (whole l.s l.at l.m l.n l.initial.cells l.from) (l.n + length (lines (drop l.at l.s))) (length l.initial.cells)
     × Used l.s l.n l.at l.line l.next
-
-abbrev pub decreases-loop-r : goal.decreases-loop-r
-decreases-loop-r l = l.m - l.r

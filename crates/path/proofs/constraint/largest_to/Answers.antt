@@ -7,13 +7,12 @@ use Rattle.path.proofs.constraint.largest_to.Goals.{then-w-best, else-w-best}
 
 pub loop-i-init : goal.loop-i-init
 unfolding largest
-loop-i-init c = (omega arith, omega arith, refl)
+loop-i-init c = (omega arith, refl)
 
 pub loop-i-preserved : goal.loop-i-preserved
 loop-i-preserved c =
     let i = c.loop-i.i in
-    let e = c.loop-i.invariant.2 in (
-      omega arith,
+    let e = c.loop-i.invariant.1 in (
       elim c.if-w-best.branch [ then-w-best w ↦ omega arith | else-w-best w ↦ omega arith ],
       elim c.if-w-best.branch [ then-w-best w ↦ w.best-is ∙ scan_higher _ _ i e w.if-w-best.true | else-w-best w ↦ w.best-is ∙ scan_same _ _ i e w.if-w-best.false ],
     )
@@ -21,4 +20,4 @@ loop-i-preserved c =
 pub returns : goal.returns
 returns c =
     let e : c.loop-i.i ≡ c.args.n = omega arith in
-    (c.loop-i.invariant.2 ∙ ap (largest _) e, c.loop-i.invariant.1)
+    (c.loop-i.invariant.1 ∙ ap (largest _) e, c.loop-i.invariant.0)

@@ -1,20 +1,14 @@
-use mathlib.Core.Path.{refl, sym, ap}
+use mathlib.Core.Path.{◌≡◌, ap, ◌∙◌}
+use Prim.Native.Nat.{ℕ, ◌+◌, ◌-◌}
 use native.Mathlib.Omega.{arith}
+use borrow.Rule.Slice.PartMut.{mid_of}
 use lib.IntN.{pos}
-use lib.ListN.{replicate, get_or-replicate}
-use Rattle.cells.proofs.PutLaws.{begins, goes_on, ends}
-use Rattle.rules_state.specs.Layout.{verdict_width}
+use lib.ListN.{length, replicate, length-take, length-drop}
+use Rattle.path.proofs.PartLaws.{part_is}
 use Rattle.path.proofs.constraint.put_none.Goals as goal
-
-pub loop-k-init : goal.loop-k-init
-loop-k-init c = (omega arith, begins pos (replicate verdict_width 0) c.args.verdicts.now c.args.at)
-
-pub loop-k-preserved : goal.loop-k-preserved
-loop-k-preserved c = (
-  omega arith,
-  goes_on pos (replicate verdict_width 0) c.args.verdicts.now c.args.at 0 c.loop-k.verdicts c.loop-k.k _ (pos 0) c.loop-k.invariant.1 (omega arith) refl (ap pos (sym (get_or-replicate verdict_width c.loop-k.k 0 0 (omega arith)))),
-)
 
 pub returns : goal.returns
 returns c =
-    ends pos (replicate verdict_width 0) c.args.verdicts.now c.args.at c.loop-k.verdicts c.loop-k.k c.loop-k.invariant.1 (omega arith)
+    let at = c.args.at in
+    let n : length (mid_of at (at + 20 - at) c.args.verdicts.now) ≡ 20 = simp (length-take, length-drop) (omega arith) in
+    part_is c.args.verdicts.now at (at + 20 - at) c.fill.new.self (replicate 20 (pos 0)) (c.fill.ensures.after (λ y h. h) ∙ ap (λ (k : ℕ). replicate k (pos 0)) n) (omega arith) (omega arith)

@@ -1,6 +1,6 @@
 use mathlib.Core.List.{List, map}
 use mathlib.Core.Path.{◌≡◌}
-use Prim.Native.Nat.{ℕ, ◌≤◌, ◌+◌}
+use Prim.Native.Nat.{ℕ, ◌≤◌, ◌+◌, ◌-◌}
 use lib.IntN.{ℤ}
 use lib.ListN.{length, replicate}
 use lib.Seq.{sets}
@@ -21,8 +21,5 @@ pub record Held-so-far (w₀ w : List ℕ) (ports t m : ℕ) (before out : List 
   pub sixteen : length v ≡ 16
   pub put : out ≡ sets before from (map cell_of v)
 
-abbrev pub invariant-loop-k : goal.invariant-loop-k
-invariant-loop-k l = Held-so-far l.initial.w l.w l.ports l.total l.named l.initial.verdicts l.verdicts l.at l.k
-
-abbrev pub decreases-loop-k : goal.decreases-loop-k
-decreases-loop-k l = l.k
+abbrev pub invariant-loop-turn : goal.invariant-loop-turn
+invariant-loop-turn l = Held-so-far l.initial.w l.w l.ports l.total l.named l.initial.verdicts l.verdicts l.at (3 - l.turn)

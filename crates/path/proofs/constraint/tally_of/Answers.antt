@@ -93,52 +93,52 @@ module _ (sellers : List ℕ) (factors outputs : List ℤ) (n c : ℕ) (s : Soun
     own-size : e * (cast o.available - cast o.floor) ≤ 1000000000000
     own-size = prod_le _ _ effect-size (omega (arith, most-size))
 
-effect-is : (c : After-effectiveness-e) → c.effectiveness-e.result ≡ effectiveness (get_or c.args.factors.now (c.loop-r.r * 32 + c.args.c) (pos 0))
+effect-is : (c : After-effectiveness-e) → c.effectiveness-e.result ≡ effectiveness (get_or c.args.asked.now.factors.now (c.loop-r.r * 32 + c.args.c) (pos 0))
 effect-is c = search rules
 
 -- a turn, as far as the outputs are read
 module _ (c : After-output_at-out) where
-  row-in : c.loop-r.r < c.args.resources
+  row-in : c.loop-r.r < c.args.asked.now.resources
   row-in = omega (arith, c.loop-r-test.true, c.rows_in-rows.ensures.most)
 
   few : c.loop-r.r < 64
   few = let s = c.requires.0 in omega (arith, row-in, s.few)
 
   fit-most : T (non_neg (to_z w64 (of_z w64 c.output_at-out.result.available))) × Fits w64 (cast c.output_at-out.result.available)
-  fit-most = available-fit c.args.sellers.now c.args.factors.now c.args.outputs.now c.args.resources c.args.c c.requires.0 c.loop-r.r row-in c.output_at-out.result c.output_at-out.ensures
+  fit-most = available-fit c.args.sellers.now c.args.asked.now.factors.now c.args.asked.now.outputs.now c.args.asked.now.resources c.args.c c.requires.0 c.loop-r.r row-in c.output_at-out.result c.output_at-out.ensures
 
   fit-kept : T (non_neg (to_z w64 (of_z w64 c.output_at-out.result.floor))) × Fits w64 (cast c.output_at-out.result.floor)
-  fit-kept = floor-fit c.args.sellers.now c.args.factors.now c.args.outputs.now c.args.resources c.args.c c.requires.0 c.loop-r.r row-in c.output_at-out.result c.output_at-out.ensures
+  fit-kept = floor-fit c.args.sellers.now c.args.asked.now.factors.now c.args.asked.now.outputs.now c.args.asked.now.resources c.args.c c.requires.0 c.loop-r.r row-in c.output_at-out.result c.output_at-out.ensures
 
   fit-wanted : T (non_neg (to_z w64 (of_z w64 c.output_at-out.result.dispatch))) × Fits w64 (cast c.output_at-out.result.dispatch)
-  fit-wanted = dispatch-fit c.args.sellers.now c.args.factors.now c.args.outputs.now c.args.resources c.args.c c.requires.0 c.loop-r.r row-in c.output_at-out.result c.output_at-out.ensures
+  fit-wanted = dispatch-fit c.args.sellers.now c.args.asked.now.factors.now c.args.asked.now.outputs.now c.args.asked.now.resources c.args.c c.requires.0 c.loop-r.r row-in c.output_at-out.result c.output_at-out.ensures
 
-  module _ (e-is : c.effectiveness-e.result ≡ effectiveness (get_or c.args.factors.now (c.loop-r.r * 32 + c.args.c) (pos 0))) where
+  module _ (e-is : c.effectiveness-e.result ≡ effectiveness (get_or c.args.asked.now.factors.now (c.loop-r.r * 32 + c.args.c) (pos 0))) where
     demand-few : c.effectiveness-e.result * cast c.output_at-out.result.dispatch ≤ 1000000000000
-    demand-few = demand-size c.args.sellers.now c.args.factors.now c.args.outputs.now c.args.resources c.args.c c.requires.0 c.loop-r.r row-in c.output_at-out.result c.output_at-out.ensures c.effectiveness-e.result e-is
+    demand-few = demand-size c.args.sellers.now c.args.asked.now.factors.now c.args.asked.now.outputs.now c.args.asked.now.resources c.args.c c.requires.0 c.loop-r.r row-in c.output_at-out.result c.output_at-out.ensures c.effectiveness-e.result e-is
 
     supply-few : c.effectiveness-e.result * cast c.output_at-out.result.available ≤ 1000000000000
-    supply-few = supply-size c.args.sellers.now c.args.factors.now c.args.outputs.now c.args.resources c.args.c c.requires.0 c.loop-r.r row-in c.output_at-out.result c.output_at-out.ensures c.effectiveness-e.result e-is
+    supply-few = supply-size c.args.sellers.now c.args.asked.now.factors.now c.args.asked.now.outputs.now c.args.asked.now.resources c.args.c c.requires.0 c.loop-r.r row-in c.output_at-out.result c.output_at-out.ensures c.effectiveness-e.result e-is
 
     own-few : c.effectiveness-e.result * (cast c.output_at-out.result.available - cast c.output_at-out.result.floor) ≤ 1000000000000
-    own-few = own-size c.args.sellers.now c.args.factors.now c.args.outputs.now c.args.resources c.args.c c.requires.0 c.loop-r.r row-in c.output_at-out.result c.output_at-out.ensures c.effectiveness-e.result e-is
+    own-few = own-size c.args.sellers.now c.args.asked.now.factors.now c.args.asked.now.outputs.now c.args.asked.now.resources c.args.c c.requires.0 c.loop-r.r row-in c.output_at-out.result c.output_at-out.ensures c.effectiveness-e.result e-is
 
   -- the sums so far
   room-demand : c.loop-r.demand ≤ c.loop-r.r * 1000000000000
-  room-demand = demand_room c.args.factors.now (outputs_in c.args.outputs.now 1) (outputs_in c.args.outputs.now 2) (outputs_in c.args.outputs.now 3) c.args.sellers.now c.args.c c.args.resources c.requires.0 c.loop-r.r _ _ _ (omega (arith, row-in)) c.loop-r.invariant.1
+  room-demand = demand_room c.args.asked.now.factors.now (outputs_in c.args.asked.now.outputs.now 1) (outputs_in c.args.asked.now.outputs.now 2) (outputs_in c.args.asked.now.outputs.now 3) c.args.sellers.now c.args.c c.args.asked.now.resources c.requires.0 c.loop-r.r _ _ _ (omega (arith, row-in)) c.loop-r.invariant
 
   room-supply : c.loop-r.supply ≤ c.loop-r.r * 1000000000000
-  room-supply = supply_room c.args.factors.now (outputs_in c.args.outputs.now 1) (outputs_in c.args.outputs.now 2) (outputs_in c.args.outputs.now 3) c.args.sellers.now c.args.c c.args.resources c.requires.0 c.loop-r.r _ _ _ (omega (arith, row-in)) c.loop-r.invariant.1
+  room-supply = supply_room c.args.asked.now.factors.now (outputs_in c.args.asked.now.outputs.now 1) (outputs_in c.args.asked.now.outputs.now 2) (outputs_in c.args.asked.now.outputs.now 3) c.args.sellers.now c.args.c c.args.asked.now.resources c.requires.0 c.loop-r.r _ _ _ (omega (arith, row-in)) c.loop-r.invariant
 
   room-own : (p : ℕ) → p < 16 → get_or c.loop-r.offers p 0 ≤ c.loop-r.r * 1000000000000
-  room-own p h = withholdable_room c.args.factors.now (outputs_in c.args.outputs.now 1) (outputs_in c.args.outputs.now 2) (outputs_in c.args.outputs.now 3) c.args.sellers.now c.args.c c.args.resources c.requires.0 c.loop-r.r _ _ _ p (omega (arith, row-in)) h c.loop-r.invariant.1
+  room-own p h = withholdable_room c.args.asked.now.factors.now (outputs_in c.args.asked.now.outputs.now 1) (outputs_in c.args.asked.now.outputs.now 2) (outputs_in c.args.asked.now.outputs.now 3) c.args.sellers.now c.args.c c.args.asked.now.resources c.requires.0 c.loop-r.r _ _ _ p (omega (arith, row-in)) h c.loop-r.invariant
 
 pub loop-r-init : goal.loop-r-init
-loop-r-init c = (omega arith, rw c.requires.1 (added_start _ _ _ _ _ _))
+loop-r-init c = rw c.requires.1 (added_start _ _ _ _ _ _)
 
 pub effectiveness-e-requires : goal.effectiveness-e-requires
 effectiveness-e-requires c =
-    let h : nat_abs (get_or c.args.factors.now (c.loop-r.r * 32 + c.args.c) (pos 0)) ≤ 1000000
+    let h : nat_abs (get_or c.args.asked.now.factors.now (c.loop-r.r * 32 + c.args.c) (pos 0)) ≤ 1000000
     = size_range 999999 _ (c.requires.0.factor_in _ (omega (arith, c.loop-r-test.true, c.rows_in-rows.ensures.most))) in
     search rules
 
@@ -172,9 +172,9 @@ overflow_sub-offers c =
     let o = (goal.at.overflow_sub-offers c).After-output_at-out in
     omega (
       arith,
-      available-is c.args.sellers.now c.args.factors.now c.args.outputs.now c.args.resources c.args.c c.requires.0 c.loop-r.r (row-in o) c.output_at-out.result c.output_at-out.ensures,
-      floor-is c.args.sellers.now c.args.factors.now c.args.outputs.now c.args.resources c.args.c c.requires.0 c.loop-r.r (row-in o) c.output_at-out.result c.output_at-out.ensures,
-      (k c.args.sellers.now c.args.factors.now c.args.outputs.now c.args.resources c.args.c c.requires.0 c.loop-r.r (row-in o) c.output_at-out.result c.output_at-out.ensures).floor_most,
+      available-is c.args.sellers.now c.args.asked.now.factors.now c.args.asked.now.outputs.now c.args.asked.now.resources c.args.c c.requires.0 c.loop-r.r (row-in o) c.output_at-out.result c.output_at-out.ensures,
+      floor-is c.args.sellers.now c.args.asked.now.factors.now c.args.asked.now.outputs.now c.args.asked.now.resources c.args.c c.requires.0 c.loop-r.r (row-in o) c.output_at-out.result c.output_at-out.ensures,
+      (k c.args.sellers.now c.args.asked.now.factors.now c.args.asked.now.outputs.now c.args.asked.now.resources c.args.c c.requires.0 c.loop-r.r (row-in o) c.output_at-out.result c.output_at-out.ensures).floor_most,
     )
 
 pub overflow_mul-offers : goal.overflow_mul-offers
@@ -188,33 +188,31 @@ overflow_add-offers c =
 pub loop-r-preserved : goal.loop-r-preserved
 loop-r-preserved c =
     let e = effect-is (goal.at.loop-r-preserved c).After-effectiveness-e in
-    let f = c.args.factors.now in
-    let d = outputs_in c.args.outputs.now 1 in
-    let a = outputs_in c.args.outputs.now 2 in
-    let l = outputs_in c.args.outputs.now 3 in
-    let row : c.loop-r.r < c.args.resources = omega (arith, c.loop-r-test.true, c.rows_in-rows.ensures.most) in (
-      omega arith,
-      elim c.if-e-gt0.branch [
-        | then-e-gt0+then-p-lt-MAX_PORTFOLIOS w ↦
-            added_known f d a l c.args.sellers.now c.args.c c.loop-r.r _ _ _ c.loop-r.invariant.1 _ _ _ _ _ _ e
-            (dispatch-is c.args.sellers.now f c.args.outputs.now c.args.resources c.args.c c.requires.0 c.loop-r.r row w.output_at-out.result w.output_at-out.ensures)
-            (available-is c.args.sellers.now f c.args.outputs.now c.args.resources c.args.c c.requires.0 c.loop-r.r row w.output_at-out.result w.output_at-out.ensures)
-            w.demand-is w.supply-is _
-            (floor-is c.args.sellers.now f c.args.outputs.now c.args.resources c.args.c c.requires.0 c.loop-r.r row w.output_at-out.result w.output_at-out.ensures)
-            (rw w.wide-p.ensures at w.if-p-lt-MAX_PORTFOLIOS.true) (rw w.wide-p.ensures at w.offers-is)
-        | then-e-gt0+else-p-lt-MAX_PORTFOLIOS w ↦
-            added_unknown f d a l c.args.sellers.now c.args.c c.loop-r.r _ _ _ c.loop-r.invariant.1 _ _ _ _ _ _ e
-            (dispatch-is c.args.sellers.now f c.args.outputs.now c.args.resources c.args.c c.requires.0 c.loop-r.r row w.output_at-out.result w.output_at-out.ensures)
-            (available-is c.args.sellers.now f c.args.outputs.now c.args.resources c.args.c c.requires.0 c.loop-r.r row w.output_at-out.result w.output_at-out.ensures)
-            w.demand-is w.supply-is (rw w.wide-p.ensures at w.if-p-lt-MAX_PORTFOLIOS.false) w.offers-is
-        | else-e-gt0 w ↦ rw (w.demand-is, w.supply-is, w.offers-is) (added_none f d a l c.args.sellers.now c.args.c c.loop-r.r _ _ _ c.loop-r.invariant.1 (omega (arith, e, w.if-e-gt0.false)))
-      ],
-    )
+    let f = c.args.asked.now.factors.now in
+    let d = outputs_in c.args.asked.now.outputs.now 1 in
+    let a = outputs_in c.args.asked.now.outputs.now 2 in
+    let l = outputs_in c.args.asked.now.outputs.now 3 in
+    let row : c.loop-r.r < c.args.asked.now.resources = omega (arith, c.loop-r-test.true, c.rows_in-rows.ensures.most) in
+    elim c.if-e-gt0.branch [
+      | then-e-gt0+then-p-lt-MAX_PORTFOLIOS w ↦
+          added_known f d a l c.args.sellers.now c.args.c c.loop-r.r _ _ _ c.loop-r.invariant _ _ _ _ _ _ e
+          (dispatch-is c.args.sellers.now f c.args.asked.now.outputs.now c.args.asked.now.resources c.args.c c.requires.0 c.loop-r.r row w.output_at-out.result w.output_at-out.ensures)
+          (available-is c.args.sellers.now f c.args.asked.now.outputs.now c.args.asked.now.resources c.args.c c.requires.0 c.loop-r.r row w.output_at-out.result w.output_at-out.ensures)
+          w.demand-is w.supply-is _
+          (floor-is c.args.sellers.now f c.args.asked.now.outputs.now c.args.asked.now.resources c.args.c c.requires.0 c.loop-r.r row w.output_at-out.result w.output_at-out.ensures)
+          (rw w.from-p.ensures at w.if-p-lt-MAX_PORTFOLIOS.true) (rw w.from-p.ensures at w.offers-is)
+      | then-e-gt0+else-p-lt-MAX_PORTFOLIOS w ↦
+          added_unknown f d a l c.args.sellers.now c.args.c c.loop-r.r _ _ _ c.loop-r.invariant _ _ _ _ _ _ e
+          (dispatch-is c.args.sellers.now f c.args.asked.now.outputs.now c.args.asked.now.resources c.args.c c.requires.0 c.loop-r.r row w.output_at-out.result w.output_at-out.ensures)
+          (available-is c.args.sellers.now f c.args.asked.now.outputs.now c.args.asked.now.resources c.args.c c.requires.0 c.loop-r.r row w.output_at-out.result w.output_at-out.ensures)
+          w.demand-is w.supply-is (rw w.from-p.ensures at w.if-p-lt-MAX_PORTFOLIOS.false) w.offers-is
+      | else-e-gt0 w ↦ rw (w.demand-is, w.supply-is, w.offers-is) (added_none f d a l c.args.sellers.now c.args.c c.loop-r.r _ _ _ c.loop-r.invariant (omega (arith, e, w.if-e-gt0.false)))
+    ]
 
 pub returns : goal.returns
 returns c =
     let e = c.rows_in-rows.ensures in
     let done : c.loop-r.r ≡ c.rows_in-rows.result = omega arith in
-    let o = c.args.outputs.now in
+    let o = c.args.asked.now.outputs.now in
     tallied _ _ _ _ _ _ _ _ _ _
-    (added_past c.args.factors.now (outputs_in o 1) (outputs_in o 2) (outputs_in o 3) c.args.sellers.now c.args.c c.loop-r.r c.args.resources _ _ _ (rw done e.most) (rw done e.outside) c.loop-r.invariant.1)
+    (added_past c.args.asked.now.factors.now (outputs_in o 1) (outputs_in o 2) (outputs_in o 3) c.args.sellers.now c.args.c c.loop-r.r c.args.asked.now.resources _ _ _ (rw done e.most) (rw done e.outside) c.loop-r.invariant)

@@ -1,2 +1,0 @@
--- Laws that the walks share.
-pub mod Facts

@@ -1,9 +1,0 @@
--- The loop of `text_tables::sellers_at`.
-use Rattle.text_tables.proofs.ColumnLaws.{Keeps, left}
-use Rattle.text_tables.proofs.sellers_at.Given as goal
-
-abbrev pub invariant-loop-row : goal.invariant-loop-row
-invariant-loop-row l = Keeps 1 l.s l.at l.initial.cells l.count l.cells l.next
-
-abbrev pub decreases-loop-row : goal.decreases-loop-row
-decreases-loop-row l = left 1 l.s l.at l.next

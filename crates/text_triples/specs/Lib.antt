@@ -1,2 +1,0 @@
--- Definitions that the contracts of the crate cite.
-pub mod Two
