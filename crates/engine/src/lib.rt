@@ -29,7 +29,7 @@ use rules_interval::Interval;
 use rules_mitigation::Mitigated;
 use rules_opening::Opening;
 use rules_pass::Quarter;
-use rules_path::Verdict;
+use rules_path::{Finding, Market, Verdict};
 use rules_state::CallError;
 
 // An hour, as the cells of rules_state: its standing, the quarter hour that runs, who owns what, and its resources. Every content of them has a meaning.
@@ -76,6 +76,27 @@ fn refusal_of(error: CallError) -> Refusal
 pub struct Answer {
     pub hour: Hour,
     pub verdicts: [Verdict; Interval::MAX_CONSTRAINTS],
+}
+
+const NOT_BINDING: Verdict = Verdict {
+    finding: Finding::NotBinding,
+    demand: 0,
+    left: 0,
+    named: 0,
+    withheld: [0; Market::MAX_PORTFOLIOS],
+};
+
+impl Answer {
+    // What a refused interval or pass leaves its caller: the very hour that came in, and no verdicts. So `hour.interval(v).unwrap_or(Answer::unchanged(hour))` is the
+    // hour to go on with, whatever was answered.
+    pub fn unchanged(hour: Hour) -> Answer
+        ensures { result ≡ unchanged hour }
+    {
+        Answer {
+            hour,
+            verdicts: [NOT_BINDING; Interval::MAX_CONSTRAINTS],
+        }
+    }
 }
 
 impl Hour {
@@ -141,7 +162,11 @@ impl Hour {
         ensures hour { (result_unwrap_or result (unchanged self)).hour.cells ≡ if_accepted (refusal_by pass self.cells v) (written_by pass self.cells v) self.cells }
         ensures verdicts { (result_unwrap_or result (unchanged self)).verdicts ≡ verdicts_unless (refusal_by pass self.cells v) (verdicts_of (market_in self.cells) v) }
     {
-        let mut cells = self.cells;
+        // The answer is made in place: each hour that is put together from its cells would be copied once more.
+        let mut answer = Answer {
+            hour: self,
+            verdicts: [NOT_BINDING; Interval::MAX_CONSTRAINTS],
+        };
         let mut found = taking::none_found();
         let outputs = outputs_of(&v);
         let asked = LentInterval {
@@ -152,11 +177,11 @@ impl Hour {
             factors: &v.factors,
             parameter: v.parameter,
         };
-        hour_cells::call_into(&mut cells, pass, &asked, &mut found).map_err(refusal_of)?;
-        Ok(Answer {
-            hour: Hour { cells },
-            verdicts: verdict_cells::verdicts_in(&found),
-        })
+        hour_cells::call_into(&mut answer.hour.cells, pass, &asked, &mut found).map_err(
+            refusal_of,
+        )?;
+        answer.verdicts = verdict_cells::verdicts_in(&found);
+        Ok(answer)
     }
 
     // The next hour and the verdicts, or the lowest of refusals 12 to 16 that applies. An accepted interval begins a quarter hour.

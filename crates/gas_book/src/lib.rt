@@ -42,7 +42,7 @@ pub fn run_in(list: &[u32], day: u32) -> &[u32]
     ensures { result.now ≡ run_in day list.now }
 {
     if list.len() % 2 != 0 || !days_rise(list) {
-        return &[];
+        return &list[..0];
     }
     &list[..length_to(list, day)]
 }

@@ -18,7 +18,7 @@ use Rattle.rules_curve.specs.declared.Curve.{Curve}
 use Rattle.rules_curve.specs.declared.RawCurve.{RawCurve}
 use Rattle.rules_curve.specs.declared.Refusal.{Refusal}
 use Rattle.rules_curve.proofs.RefusalLaws.{refused_number}
-use Rattle.rules_hydro.specs.Hydros.{hydro_number, largest_at, largest_over, hydro_curve, prices_good, limits_good, hydro_refusal, hydro_in}
+use Rattle.rules_hydro.specs.Hydros.{hydro_number, largest_at, largest_over, hydro_price, hydro_curve, prices_good, limits_good, hydro_refusal, hydro_in}
 use Rattle.rules_hydro.specs.Conditions.{Limited}
 use Rattle.rules_hydro.specs.declared.Hydro.{Hydro}
 use Rattle.rules_hydro.specs.declared.HydroRefusal.{HydroRefusal}
@@ -70,6 +70,16 @@ module _ (x : Hydro) where
 
     pub far_in : nat_abs (largest_over x.prices x.hubs x.horizon) ≤ 100000000
     far_in = small (far_price x ok)
+
+-- ---- 22 and the price don't depend on the quantities
+module _ (low high heat gas : ℤ) (hubs horizon : ℕ) (prices : List ℤ) where
+  pub limits_data : (l u : ℤ) {h g : ℤ} → h ≡ heat → g ≡ gas → limits_good (hydro_in l u h g hubs horizon prices) ≡ limits_good (hydro_in low high heat gas hubs horizon prices)
+  unfolding limits_good
+  limits_data l u a b = rw (a, b)
+
+  pub price_data : (l u : ℤ) {h g : ℤ} → h ≡ heat → g ≡ gas → hydro_price (hydro_in l u h g hubs horizon prices) ≡ hydro_price (hydro_in low high heat gas hubs horizon prices)
+  unfolding hydro_price
+  price_data l u a b = rw (a, b)
 
 -- ---- the numbers as they are read
 pub by_fields : {l l' h h' e e' g g' : ℤ} {n m : ℕ} {p : List ℤ} → l ≡ l' → h ≡ h' → e ≡ e' → g ≡ g' → hydro_in l h e g n m p ≡ hydro_in l' h' e' g' n m p

@@ -64,7 +64,8 @@ fn place(n: usize, last: i64, price: i64) -> usize
 }
 
 // Puts the steps of the bid of a row, divided where a step of its default curve ends, each part at its cut price, neighbours with one price as one, and answers
-// how many they are.
+// how many they are. This and put_row stand in their callers' code, for speed.
+#[inline(always)]
 fn put_steps(row: &[i64], mark: i64, floor: i64, steps: &mut [Step]) -> usize
     requires { (room_of_row ≤ length row.now) × (most_mitigated_steps ≤ length steps.old) }
     ensures count { result ≡ length (mitigated_steps (floor_of mark floor).price (curve_in_cells row.now 0) (curve_in_cells row.now curve_room)) }
@@ -149,6 +150,7 @@ fn put_bid(row: &[i64], steps: &mut [Step]) -> usize
 }
 
 // Puts the steps of the present curve of a row, and answers how many they are. A bid that was never cut isn't divided.
+#[inline(always)]
 fn put_row(row: &[i64], mark: i64, floor: i64, steps: &mut [Step]) -> usize
     requires { (room_of_row ≤ length row.now) × (most_mitigated_steps ≤ length steps.old) }
     ensures count { result ≡ length (mitigated_steps (floor_of mark floor).price (curve_in_cells row.now 0) (curve_in_cells row.now curve_room)) }

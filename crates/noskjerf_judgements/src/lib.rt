@@ -16,10 +16,7 @@ pub extern "C" fn noskjerf_bid(month: u64, start: i64, count: usize, steps: &[i6
     ensures { result ≡ bid_refusal month (raw_bid start count steps.now) }
 {
     let bid = slices::curve_in(start, count, steps);
-    match curve_checks::checked_bid(bid, month) {
-        Ok(_) => 0,
-        Err(refusal) => curve::refusal_number(refusal),
-    }
+    curve::outcome_number(curve_checks::checked_bid(bid, month).map(|_| ()))
 }
 
 // The default energy bid from costs. `points` has quantity and heat rate of each point in turn, `charges` gas, rate, allowance, om, msc, soc and fee, and numbers

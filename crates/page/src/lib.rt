@@ -17,6 +17,7 @@ pub fn printable(n: u64) -> i64
 }
 
 // Puts the line of the values at an offset, where it fits, and answers the offset after it: the same offset where it doesn't.
+#[inline(always)]
 pub fn put_line(out: &mut [u8], at: usize, row: &[i64]) -> usize
     ensures page { out.new ≡ printed out.old at (line_text row.now) }
     ensures next { result ≡ unwrap_or (printed_to out.old at (line_text row.now)) at }

@@ -381,7 +381,8 @@ fn has_head(size: usize, at: usize, a: i64, b: i64) -> bool
     number::has_room(size, at, 105) && is_below(a, 10) && is_below(b, 100)
 }
 
-// Prints the line of the values at an offset, where it fits.
+// Prints the line of the values at an offset, where it fits. It stands in its callers' code, where it is known how many values there are, for speed.
+#[inline(always)]
 pub fn print_line(out: &mut [u8], at: usize, v: &[i64]) -> Option<usize>
     ensures out_after { out.new ≡ printed out.old at (line_text v.now) }
     ensures value { result ≡ printed_to out.old at (line_text v.now) }

@@ -9,7 +9,6 @@ use Rattle.rules_number.specs.Over.{sum_to, all_to, listed, those, sum_over, pad
 use Rattle.rules_curve.specs.Refusals.{number_of, each_to}
 use Rattle.rules_curve.specs.Curves.{step_to, chain, curve_refusal, curve_of, price_at, no_pack}
 use Rattle.rules_curve.specs.declared.Refusal.{Refusal}
-use Rattle.rules_curve.specs.declared.RawCurve.{RawCurve}
 use Rattle.rules_mitigation.specs.Mitigation.{segments_n, joined, joined_after, mitigated, used_steps}
 use Rattle.rules_interval.specs.Intervals.{all_within, factors_good, outputs_good, interval_refusal}
 use Rattle.rules_path.specs.Paths.{demand, supply, share, withholdable, offer, offers, largest, top, total, sellers, left, is_non_competitive}
@@ -60,7 +59,7 @@ hour = record {
   list = padded 64 no_resource (record { portfolio = pos 0; bid = bid_t; source = source.Pack; costs = no_costs; pack = hydro_pack (first 1 1) } ∷ []);
 }
 
-pub record Hydros : Type 0 where
+pub record Hydros : Type 1 where
   -- 440,000, 700,000 and 550,000
   pub amounts : (gas_floor (pos 10000) (pos 40000) ≡ pos 440000) × (short_term_price two_hubs ≡ pos 700000) × (long_term two_hubs 1 1 ≡ pos 550000)
   pub first_price : hydro_price (first 1 1) ≡ pos 700000
@@ -87,8 +86,8 @@ pub record Hydros : Type 0 where
   pub quantities : (values (pos 1) (pos 0) (pos 5) (pos 5) ≡ 2) × (values (pos 1) (pos 0) (neg_ℤ (pos 1)) (pos 5) ≡ 2) × (values (pos 1) (pos 0) (pos 0) (pos 1000001) ≡ 2)
   pub widest : values (pos 1) (pos 0) (pos 0) (pos 1000000) ≡ 0
   pub before_2 : values (pos 0) (pos 0) (pos 5) (pos 5) ≡ 22
-  -- the pack's numbers: 0, 22, and the engine's own
-  pub numbers : ((x : RawCurve) → hydro_number (Ok x) ≡ 0) × (hydro_number {T = RawCurve} (Err why.OutsideLimits) ≡ 22) × ((r : Refusal) → hydro_number {T = RawCurve} (Err (why.Curve r)) ≡ number_of r)
+  -- the pack's numbers, whatever is handed back: 0, 22, and the engine's own
+  pub numbers : ((T : Type 0) (x : T) → hydro_number (Ok x) ≡ 0) × ((T : Type 0) → hydro_number {T = T} (Err why.OutsideLimits) ≡ 22) × ((T : Type 0) (r : Refusal) → hydro_number {T = T} (Err (why.Curve r)) ≡ number_of r)
   pub refused_pack : hydro_pack (with (pos 0) (pos 1) (pos 0) (pos 0) 1 1 []) ≡ no_pack
   -- Case T's interval, L 350,100, cuts the bid to the hydro price
   pub taken : opening_refusal hour ≡ 0
@@ -122,7 +121,7 @@ worked = record {
   quantities = (refl, refl, refl);
   widest = refl;
   before_2 = refl;
-  numbers = ((λ x. refl), refl, λ r. refl);
+  numbers = ((λ T x. refl), (λ T. refl), λ T r. refl);
   refused_pack = refl;
   taken = refl;
   cut = refl;

@@ -3,15 +3,16 @@ use Rattle.std.specs.Prelude.{Err, Ok, Result, ⊤}
 use mathlib.Core.List.{map}
 use mathlib.Core.Path.{◌≡◌, refl, ap, ◌∙◌}
 use Prim.Native.Nat.{ℕ, ◌<◌}
+use native.Mathlib.Omega.{arith}
 use lib.IntN.{pos}
 use lib.ListN.{take, replicate}
-use Rattle.rules_curve.specs.Refusals.{outcome_number}
+use Rattle.rules_curve.specs.Refusals.{number_of, outcome_number}
 use Rattle.rules_curve.specs.Curves.{curve_of, unless_refused, bid_refusal, default_refusal, checked_bid, checked_default}
 use Rattle.rules_curve.specs.declared.Refusal.{Refusal}
 use Rattle.rules_curve.specs.declared.Refusal.TheVariants as refusal
 use Rattle.rules_curve.specs.declared.Curve.{Curve}
 use Rattle.rules_curve.specs.declared.RawCurve.{RawCurve}
-use Rattle.rules_curve.proofs.RefusalLaws.{outcome_only}
+use Rattle.rules_curve.proofs.RefusalLaws.{outcome_only, refused_number}
 use Rattle.rules_curve.proofs.Answered.{blank_is, refused_alone, same_start, same_steps}
 use Rattle.rules_cost.specs.Costs.{cost_refusal, cost_curve}
 use Rattle.rules_cost.specs.declared.Costs.{Costs}
@@ -45,9 +46,20 @@ Number refusal.PartsTogether = 24
 Number refusal.TradingDay = 25
 Number refusal.NothingBinds = 26
 
--- 0 is accepted, whatever is handed back, and an outcome is what its number says
-pub outcomes : ((T : Type 0) (x : T) → outcome_number (Ok x) ≡ 0) × ((T : Type 0) (r : Refusal) → outcome_number {T = T} (Err r) ≡ Number r) × ((a b : Result ⊤ Refusal) → outcome_number a ≡ outcome_number b → a ≡ b)
-outcomes = ((λ T x. refl), (λ T r. refl), outcome_only)
+-- what a refusal says beside its number, whatever an accepted call hands back: nothing
+refusal_in : Result ⊤ Refusal → Refusal
+refusal_in (Ok x) = refusal.StepCount
+refusal_in (Err r) = r
+
+said_by : {T : Type 0} (r : Refusal) (a : Result T Refusal) → outcome_number a ≡ number_of r → a ≡ Err r
+unfolding refusal_in
+said_by r (Ok x) e = let p : 0 < number_of r = refused_number r in absurd (omega (arith, e))
+said_by r (Err s) e = ap Err (ap refusal_in (outcome_only (Err s) (Err r) e))
+
+-- 0 is accepted, whatever is handed back, and an outcome is what its number says: with the number of a refusal it is that refusal
+pub outcomes : ((T : Type 0) (x : T) → outcome_number (Ok x) ≡ 0) × ((T : Type 0) (r : Refusal) → outcome_number {T = T} (Err r) ≡ Number r)
+    × ((a b : Result ⊤ Refusal) → outcome_number a ≡ outcome_number b → a ≡ b) × ((T : Type 0) (r : Refusal) (a : Result T Refusal) → outcome_number a ≡ Number r → a ≡ Err r)
+outcomes = ((λ T x. refl), (λ T r. refl), outcome_only, λ T r a e. said_by r a e)
 
 -- ---- the curve of nothing: start 0 and no steps
 abbrev pub Nothing : Curve

@@ -14,7 +14,6 @@ use Rattle.rules_curve.specs.Demands.{First}
 use Rattle.rules_curve.specs.Refusals.{number_of}
 use Rattle.rules_curve.specs.declared.RawStep.{RawStep}
 use Rattle.rules_curve.specs.declared.Refusal.{Refusal}
-use Rattle.rules_curve.specs.declared.RawCurve.{RawCurve}
 use Rattle.rules_hydro.specs.Conditions.{Limited, Quantities}
 use Rattle.rules_hydro.specs.Hydros.{one_step, hydro_price, hydro_curve, hydro_refusal, hydro_in, hydro_number, hydro_pack}
 use Rattle.rules_hydro.specs.Meaning.{AtHub, Priced, SameRead}
@@ -39,9 +38,9 @@ price prices i j = get_or prices (i * 14 + j) (pos 0)
 abbrev blank : RawStep
 blank = record { end = pos 0; price = pos 0 }
 
--- the numbers of an outcome, and what a slice of prices stands for
-pub numbers : ((x : RawCurve) → hydro_number (Ok x) ≡ 0) × (hydro_number {T = RawCurve} (Err why.OutsideLimits) ≡ 22) × ((r : Refusal) → hydro_number {T = RawCurve} (Err (why.Curve r)) ≡ number_of r)
-numbers = ((λ x. refl), refl, λ r. refl)
+-- the numbers of an outcome, whatever is handed back, and what a slice of prices stands for
+pub numbers : ((T : Type 0) (x : T) → hydro_number (Ok x) ≡ 0) × ((T : Type 0) → hydro_number {T = T} (Err why.OutsideLimits) ≡ 22) × ((T : Type 0) (r : Refusal) → hydro_number {T = T} (Err (why.Curve r)) ≡ number_of r)
+numbers = ((λ T x. refl), (λ T. refl), λ T r. refl)
 
 pub given : (low high heat gas : ℤ) (hubs horizon : ℕ) (prices : List ℤ)
     → hydro_in low high heat gas hubs horizon prices ≡ record { low = low; high = high; heat = heat; gas = gas; hubs = hubs; horizon = horizon; prices = prices }

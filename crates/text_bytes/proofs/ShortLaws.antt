@@ -9,11 +9,12 @@ use borrow.Author.Tests.{eq-eqb, ne_eqb, eqb-true, le-leb}
 use lib.Dec.{eqb}
 use lib.ListN.{length, drop, take, get_or}
 use lib.Seq.{get_or-take, get_or-drop, drop-drop}
-use lib.IntN.{ℤ, pos, neg_ℤ}
+use lib.IntN.{ℤ, pos, neg_ℤ, ◌-ℤ◌, +ℤ_idl}
 use mir.Syntax.{w64}
-use mir.Val.{to_z}
+use mir.Val.{SFits, to_z}
 use Rattle.rules_number.specs.Order.{eq_z}
-use Rattle.rules_number.proofs.Meant.{Meant, cast}
+use Rattle.rules_number.proofs.Kit.{rd}
+use Rattle.rules_number.proofs.Meant.{Meant, const, cast, kept, fits, ◌⊖◌}
 use Rattle.rules_number.proofs.OrderLaws.{eq_z_true, eq_z_same}
 use Rattle.rules_text.specs.Numbers.{Row, is_digit, digit_count, value, formed, magnitude, plain, negated, number, put, row}
 use Rattle.rules_text.specs.Tables.{if_suits, has_id}
@@ -126,8 +127,17 @@ digit_is s p d room e h c =
 abbrev spelt : (v : ℕ) → v < 10 ^ 12 → Meant
 spelt v h = cast {n = v} {A = 1000000000000} (omega arith) tt
 
+abbrev away : (v : ℕ) → v < 10 ^ 12 → Meant
+away v h = const 0 ⊖ spelt v h
+
 pub plus_is : {v : ℕ} → v < 10 ^ 12 → to_z w64 v ≡ pos v
 plus_is {v} h = (spelt v h).same
+
+pub minus_fits : {v : ℕ} → v < 10 ^ 12 → SFits w64 (pos 0 -ℤ to_z w64 v)
+minus_fits {v} h = fits (away v h) tt
+
+pub minus_is : {v : ℕ} → v < 10 ^ 12 → rd (pos 0 -ℤ to_z w64 v) ≡ neg_ℤ (pos v)
+minus_is {v} h = (kept (away v h) tt).same ∙ +ℤ_idl (neg_ℤ (pos v))
 
 -- where it stands
 pub stands_as : {x z : ℤ} {n : ℕ} {y : Option (ℤ × ℕ)} → x ≡ z → Some (z, n) ≡ y → Some (x, n) ≡ y

@@ -1,11 +1,15 @@
 // Runs the text NAME.txt for each NAME of the file `names`, and prints a line that says whether it prints what NAME.out has.
 #![tactic(auto)]
 
+ghost use Rattle.std.specs.Prelude.{◌≤◌, length};
+
 use rules_run::Ran;
 use std::{fs, io};
 
 // What running the text prints on the page.
-fn printed<'a>(text: &[u8], page: &'a mut [u8]) -> &'a [u8] {
+fn printed<'a>(text: &[u8], page: &'a mut [u8]) -> &'a [u8]
+    ensures { length result.now ≤ length page.old }
+{
     let Ran::Printed(k, _, _) = run::run(text, page) else {
         return &[];
     };

@@ -70,7 +70,8 @@ fn id_in(s: &[u8], at: usize) -> Option<Closed>
     })
 }
 
-// The short number at an offset that ends its line, after a minus or not, and the offset of the next line.
+// The short number at an offset that ends its line, after a minus or not, and the offset of the next line. It stands in the code of both its callers, for speed.
+#[inline(always)]
 fn last_in(s: &[u8], at: usize) -> Option<(i64, usize)>
     requires { at + 9 ≤ length s.now }
     ensures { IfSome result (λ x. Some x ≡ closed_by s.now 10 (number_at s.now at)) }

@@ -2,27 +2,24 @@
 // refused call in the middle, four accepted calls and a fifth, and the bids for the hour before the fourth and after it; and an hour with five-minute passes. The resources are those of paper 01's Case T and P9.
 #![tactic(auto)]
 
+ghost use Rattle.std.specs.Prelude.{◌≡◌, IfOk};
+ghost use Rattle.std.specs.Result.{result_unwrap_or};
+ghost use Rattle.rules_pass.specs.Passes.{opened_real_time};
+ghost use Rattle.rules_hour_bid.specs.HourBids.{hour_bid_of};
+ghost use Rattle.engine.specs.Hours.{as_real_time, unchanged};
+
 use engine::{Answer, Hour};
 use rules_cost::{Costs, Point};
 use rules_curve::{Curve, RawCurve, RawStep, Refusal};
 use rules_interval::Interval;
 use rules_mitigation::Mitigated;
 use rules_opening::{Opening, Resource, Source};
-use rules_path::{Finding, Market, Verdict};
+use rules_path::Verdict;
 use std::io;
 
-// The verdict that is printed of a refused call.
-const NOT_BINDING: Verdict = Verdict {
-    finding: Finding::NotBinding,
-    demand: 0,
-    left: 0,
-    named: 0,
-    withheld: [0; Market::MAX_PORTFOLIOS],
-};
-
-// A line for the answer: the refusal's number, or 0.
-fn print_number(rt: &impl Print, label: &str, refusal: Option<Refusal>) -> io::Result<()> {
-    println!(rt; "{label}{}", refusal.map_or(0, curve::refusal_number))
+// A line for the outcome: the refusal's number, or 0.
+fn print_outcome(rt: &impl Print, label: &str, outcome: Result<(), Refusal>) -> io::Result<()> {
+    println!(rt; "{label}{}", curve::outcome_number(outcome))
 }
 
 // A line for a verdict: finding, demand, left and how many sellers are named.
@@ -186,14 +183,18 @@ fn interval(shadow: i64, lmp: i64, parameter: i64) -> Interval {
     }
 }
 
-// The bids for the hour, and their answer; of a refused one the curve of a blank hour, which has no step.
+// The bid of resource r for the hour; where it is refused, the blank curve, which has no step.
+fn bid_for(hour: Hour, r: usize) -> Mitigated
+    ensures { result ≡ hour_bid_of (as_real_time hour) r }
+{
+    hour.hour_bid(r).unwrap_or(standing::blank_curve())
+}
+
+// The bids for the hour, and their answer.
 fn print_bids(rt: &impl Print, hour: Hour) -> io::Result<()> {
-    let first = hour.hour_bid(0);
-    let second = hour.hour_bid(1);
-    let none = Hour::blank().curve(0);
-    print_number(rt, "hour bid ", first.err())?;
-    print_curve(rt, "bid ", 0, first.unwrap_or(none))?;
-    print_curve(rt, "bid ", 1, second.unwrap_or(none))
+    print_outcome(rt, "hour bid ", hour.hour_bid(0).map(|_| ()))?;
+    print_curve(rt, "bid ", 0, bid_for(hour, 0))?;
+    print_curve(rt, "bid ", 1, bid_for(hour, 1))
 }
 
 // An answer printed; the hour that it hands back, the one before where it is a refusal.
@@ -202,15 +203,14 @@ fn answered(
     label: &str,
     before: Hour,
     answer: Result<Answer, Refusal>,
-) -> io::Result<Hour> {
-    let (next, verdict) = match answer {
-        Ok(given) => (given.hour, given.verdicts[0]),
-        Err(_) => (before, NOT_BINDING),
-    };
-    print_number(rt, label, answer.err())?;
-    print_verdict(rt, verdict)?;
-    print_curves(rt, next)?;
-    Ok(next)
+) -> io::Result<Hour>
+    ensures { IfOk result (λ hour. hour ≡ (result_unwrap_or answer (unchanged before)).hour) }
+{
+    let given = answer.unwrap_or(Answer::unchanged(before));
+    print_outcome(rt, label, answer.map(|_| ()))?;
+    print_verdict(rt, given.verdicts[0])?;
+    print_curves(rt, given.hour)?;
+    Ok(given.hour)
 }
 
 // An interval.
@@ -232,10 +232,12 @@ fn pass(rt: &impl Print, hour: Hour, v: Interval) -> io::Result<Hour> {
 }
 
 // The opened hour, its answer printed; a blank one where it is refused.
-fn open(rt: &impl Print, o: Opening) -> io::Result<Hour> {
+fn open(rt: &impl Print, o: Opening) -> io::Result<Hour>
+    ensures { IfOk result (λ hour. as_real_time hour ≡ opened_real_time o) }
+{
     let opened = Hour::open(o);
     let hour = opened.unwrap_or(Hour::blank());
-    print_number(rt, "opening ", opened.err())?;
+    print_outcome(rt, "opening ", opened.map(|_| ()))?;
     print_curves(rt, hour)?;
     Ok(hour)
 }

@@ -1,8 +1,7 @@
 -- Goals of `line_copies::copy_lines` that the search leaves. Assumes nothing.
 use Rattle.std.specs.Prelude.{None, Some}
-use Rattle.std.proofs.Common.{◌≡◌, ℕ, ◌+◌, ◌-◌, ◌≤◌, List, ◌++◌, length, take, drop, sym, ap, ◌∙◌, arith, true, false, cond}
-use Rattle.std.proofs.lemmas.List.Edits.{sets, sets-eq}
-use lib.Seq.{paste}
+use Rattle.std.proofs.Common.{◌≡◌, ℕ, ◌+◌, ◌≤◌, List, length, take, drop, sym, ap, ◌∙◌, arith, true, false, cond}
+use Rattle.std.proofs.lemmas.List.Edits.{sets}
 use Rattle.std.proofs.Math.Dec.{leb}
 use mathlib.Core.Bool.{Bool, ◌&&◌}
 use borrow.Author.Tests.{leb-true}
@@ -19,13 +18,6 @@ module _ (page : List ℕ) (from at n : ℕ) (widths : List ℕ) (base d : ℕ) 
   none : is_later page from at n ≡ false → (page ≡ with_lines page from at n widths base d) × (None ≡ lines_to page from at n)
   unfolding with_lines lines_to
   none e = (sym (ap (λ (b : Bool). cond b (sets page at (lines_again page from n widths base d)) page) e), sym (ap (λ (b : Bool). cond b (Some (at + n)) None) e))
-
-  copied_by : (copied : List ℕ) → from + n ≤ at → at + n ≤ length page → copied ≡ paste page at (drop from page) (from + n - from) → copied ≡ sets page at (take n (drop from page))
-  copied_by copied source room e =
-      let t = take n (drop from page) in
-      let long : length t ≡ n = length-take-le n (drop from page) (omega (arith, source, room, length-drop from page)) in
-      let k : from + n - from ≡ n = omega arith in
-      e ∙ ap (paste page at (drop from page)) k ∙ sym (sets-eq t page at (omega (arith, long, room)) ∙ ap (λ (j : ℕ). (take at page ++ t) ++ drop (at + j) page) long)
 
   some : (copied last : List ℕ) → is_later page from at n ≡ true → from + n ≤ at → at + n ≤ length page
       → copied ≡ sets page at (take n (drop from page)) → last ≡ sets copied at (headed d 0 (drop base widths) (take n (drop at copied)))
@@ -67,7 +59,6 @@ returns c =
     let f = sym c.has_room-else-not-has_room.ensures ∙ c.if-not-has_room-2.false in
     let source = leb-true (a.from + a.n) a.at e in
     let room = leb-true (a.at + a.n) (length a.page.now) f in
-    let copied = copied_by a.page.now a.from a.at a.n a.widths.now a.base a.first c.copy_within.new.self source room c.copy_within.ensures.after in
-    let p = some a.page.now a.from a.at a.n a.widths.now a.base a.first c.copy_within.new.self c.put_heads.new.page
-    (both a.page.now a.from a.at a.n a.widths.now a.base a.first e f) source room copied c.put_heads.ensures in
+    let p = some a.page.now a.from a.at a.n a.widths.now a.base a.first c.copy_bytes.new.page c.put_heads.new.page
+    (both a.page.now a.from a.at a.n a.widths.now a.base a.first e f) source room c.copy_bytes.ensures c.put_heads.ensures in
     record { page = p.0; next = p.1 }

@@ -84,5 +84,5 @@ returns c =
     record {
       number = sym (sym (number t) ∙ ap outcome_number c.in_ok-map_err.was);
       hour = m.1.0;
-      verdicts = c.verdicts_in.ensures ∙ read_back (market_in l) c.args.v n (sound c.args.pass l c.args.v) c.none_found-found.result c.call_into.new.verdicts c.none_found-found.ensures m.1.1;
+      verdicts = c.verdicts_in-answer.ensures ∙ read_back (market_in l) c.args.v n (sound c.args.pass l c.args.v) c.none_found-found.result c.call_into.new.verdicts c.none_found-found.ensures m.1.1;
     }
