@@ -6,7 +6,7 @@ ghost use Rattle.std.specs.Prelude.{◌≡◌, ◌+◌, ◌≤◌, length, take,
 ghost use Rattle.std.proofs.lemmas.List.Edits.{sets};
 ghost use Rattle.line_copies.specs.Lines.{headed, with_lines, lines_to};
 
-// Puts bytes over others. A function of its own, by index, for speed: what two references lend lies apart, so that the compiler copies it at once.
+// Puts bytes over others. A function of its own, by index, for speed: what two references lend lies apart, so that the compiler copies many bytes a turn.
 fn copy_over(into: &mut [u8], bytes: &[u8])
     requires { length into.old ≡ length bytes.now }
     ensures { into.new ≡ bytes.now }

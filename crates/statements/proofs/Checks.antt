@@ -46,11 +46,12 @@ Number refusal.PartsTogether = 24
 Number refusal.TradingDay = 25
 Number refusal.NothingBinds = 26
 
--- what a refusal says beside its number, whatever an accepted call hands back: nothing
+-- the refusal of an outcome, and any where there is none
 refusal_in : Result ⊤ Refusal → Refusal
 refusal_in (Ok x) = refusal.StepCount
 refusal_in (Err r) = r
 
+-- whatever an accepted call hands back, a number that is a refusal's is of that refusal
 said_by : {T : Type 0} (r : Refusal) (a : Result T Refusal) → outcome_number a ≡ number_of r → a ≡ Err r
 unfolding refusal_in
 said_by r (Ok x) e = let p : 0 < number_of r = refused_number r in absurd (omega (arith, e))
